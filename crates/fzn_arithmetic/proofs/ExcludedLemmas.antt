@@ -8,12 +8,12 @@ use Rattle.fzn_domain.specs.IntSet.{IntSet, contains, width, range, natural_part
 use Rattle.fzn_domain.specs.Narrow.{set_of, is_some_empty}
 use Rattle.fzn_domain.proofs.DomainLemmas.{by_order}
 use Rattle.fzn_domain.proofs.SetLemmas.{size_within, size-range, contains-range}
-use Rattle.fzn_meaning.specs.declared.term.Term.{Term}
-use Rattle.fzn_meaning.specs.declared.term.Term.TheVariants.{Constant, Variable}
+use Rattle.fzn_values.specs.declared.term.Term.{Term}
+use Rattle.fzn_values.specs.declared.term.Term.TheVariants.{Constant, Variable}
 use Rattle.fzn_meaning.specs.declared.arithmetic.Operation.{Operation}
 use Rattle.fzn_meaning.specs.declared.arithmetic.Operation.TheVariants as operation
 use Rattle.fzn_meaning.specs.declared.constraint.Constraint.TheVariants as constraint
-use Rattle.fzn_meaning.specs.Term.{IsTerm}
+use Rattle.fzn_values.specs.Term.{IsTerm}
 use Rattle.fzn_sets.specs.Terms.{MayBe, least_value, greatest_value}
 use Rattle.fzn_sets.proofs.ValueLemmas.{IsBetween, MayBe-ends}
 use Rattle.fzn_builtin_rules.specs.Choices.{inputs_of, result_of, Relates, NoneOf, count_of, IsChoice}

@@ -1,7 +1,7 @@
 -- Intervals of a constraint's places in which nothing meets it.
 use Rattle.std.specs.Prelude.{◌⊎◌, ◌*◌, ◌≤◌, ℤ, pos, ◌*ℤ◌, ◌<ℤ◌, ◌≤ℤ◌, unsigned_abs}
 use Rattle.fzn_domain.specs.IntSet.{width}
-use Rattle.fzn_meaning.specs.declared.term.Term.{Term}
+use Rattle.fzn_values.specs.declared.term.Term.{Term}
 use Rattle.fzn_meaning.specs.declared.arithmetic.Operation.{Operation}
 use Rattle.fzn_meaning.specs.declared.arithmetic.Operation.TheVariants as operation
 use Rattle.fzn_meaning.specs.declared.constraint.Constraint.{Constraint}

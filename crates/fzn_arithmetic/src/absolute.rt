@@ -3,7 +3,7 @@ ghost use Rattle.std.specs.Prelude.{◌≡◌, length, IfOk, IfSome};
 ghost use Rattle.fzn_domain.specs.Limits.{IsInLimits};
 ghost use Rattle.fzn_domain.specs.Narrow.{NoneEmpty};
 ghost use Rattle.fzn_meaning.specs.declared.constraint.Constraint.TheVariants as constraint;
-ghost use Rattle.fzn_meaning.specs.Term.{IsTerm};
+ghost use Rattle.fzn_values.specs.Term.{IsTerm};
 ghost use Rattle.fzn_propagator.specs.Inference.{AreFoundOf};
 ghost use Rattle.fzn_arithmetic.specs.declared.excluded.Shape.TheVariants.{Absolute};
 ghost use Rattle.fzn_arithmetic.specs.Passes.{IsJustifiedByShape, AreFoundOfShape};
@@ -13,12 +13,12 @@ use crate::exclusion::rule_of;
 use crate::pass::Pass;
 use fzn_domain::{Lit, Memory};
 use fzn_list::Items;
-use fzn_meaning::Term;
 use fzn_propagator::Findings;
 use fzn_terms::{
     Claim, MOST_VALUES, explanation_of, interval_of, is_thinned_beside, may_be, next_value,
 };
 use fzn_trail::Trail;
+use fzn_values::Term;
 use std::alloc::Global;
 
 /// Appends to `found` clauses that are false or force a literal each, where the ends of the two terms show some, else the values of the

@@ -1,6 +1,6 @@
 // Products, quotients, remainders and absolute values by intervals of their places.
 ghost use Rattle.std.specs.Prelude.{◌≡◌, length, IfOk, IfSome};
-ghost use Rattle.fzn_meaning.specs.Term.{IsTerm};
+ghost use Rattle.fzn_values.specs.Term.{IsTerm};
 ghost use Rattle.fzn_propagator.specs.Inference.{HasWritableHints};
 ghost use Rattle.fzn_terms.specs.Intervals.{IsLimitedInterval};
 ghost use Rattle.fzn_arithmetic.specs.Excluded.{rule_of};
@@ -11,10 +11,10 @@ use crate::pass::Pass;
 use crate::seeming::{seem_beyond, seems_excluded};
 use fzn_domain::{Lit, Memory};
 use fzn_list::Items;
-use fzn_meaning::Term;
 use fzn_propagator::Findings;
 use fzn_rules::Rule;
 use fzn_terms::{Interval, explanation_of, interval_of};
+use fzn_values::Term;
 use std::alloc::Global;
 
 /// How far an end of a quotient's or a remainder's places is moved at most, by steps of few pairs each.

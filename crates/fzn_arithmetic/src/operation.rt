@@ -1,9 +1,9 @@
 // Which operations are looked at how.
 ghost use Rattle.std.specs.Prelude.{◌≡◌, length, IfSome};
 ghost use Rattle.fzn_domain.specs.Narrow.{NoneEmpty};
-ghost use Rattle.fzn_meaning.specs.declared.term.Term.{Term};
+ghost use Rattle.fzn_values.specs.declared.term.Term.{Term};
 ghost use Rattle.fzn_meaning.specs.declared.constraint.Constraint.TheVariants as constraint;
-ghost use Rattle.fzn_meaning.specs.Term.{IsTerm};
+ghost use Rattle.fzn_values.specs.Term.{IsTerm};
 ghost use Rattle.fzn_propagator.specs.Inference.{AreFoundOf};
 ghost use Rattle.fzn_arithmetic.specs.Excluded.{shaped};
 ghost use Rattle.fzn_arithmetic.specs.Passes.{AreFoundOfShape};
@@ -11,9 +11,10 @@ ghost use Rattle.fzn_arithmetic.specs.Passes.{AreFoundOfShape};
 use crate::excluded::Shape;
 use crate::pass::Pass;
 use fzn_domain::Memory;
-use fzn_meaning::{Operation, Term};
+use fzn_meaning::Operation;
 use fzn_propagator::Findings;
 use fzn_trail::Trail;
+use fzn_values::Term;
 use std::alloc::Global;
 
 /// Appends to `found` clauses that are false or force a literal each, where intervals of the places show some. Of sums there are none.

@@ -1,12 +1,12 @@
 // What a pass over three places reads.
 ghost use Rattle.std.specs.Prelude.{length};
 ghost use Rattle.fzn_domain.specs.Narrow.{NoneEmpty};
-ghost use Rattle.fzn_meaning.specs.Term.{IsTerm};
+ghost use Rattle.fzn_values.specs.Term.{IsTerm};
 ghost use Rattle.fzn_terms.specs.Values.{IsTerm-prop};
 
 use crate::excluded::Shape;
-use fzn_meaning::Term;
 use fzn_trail::Trail;
+use fzn_values::Term;
 use std::alloc::Global;
 
 /// One pass over three places, on a trail on which each present set has a value.

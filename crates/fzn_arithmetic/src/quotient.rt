@@ -9,9 +9,10 @@ use crate::pass::Pass;
 use fzn_domain::{Domain, GREATEST_VALUE, LEAST_VALUE, Lit, Memory, Op, VarId};
 use fzn_fixed::{Image, of_operation};
 use fzn_list::Items;
-use fzn_meaning::{Operation, Term};
+use fzn_meaning::Operation;
 use fzn_propagator::Findings;
 use fzn_terms::{Interval, MOST_VALUES, interval_of, is_thinned};
+use fzn_values::Term;
 use std::alloc::Global;
 
 impl<'a> Pass<'a> {

@@ -1,7 +1,7 @@
 -- Members of a set, or the numbers that are none, by what a switch asks for.
 use Rattle.std.specs.Prelude.{◌≡◌, Bool, true, false, not, ℤ, pos, ◌≤ℤ◌, ◌<ℤ◌, List, Option, Some, None}
 use Rattle.fzn_domain.specs.IntSet.{IntSet, contains}
-use Rattle.fzn_meaning.specs.declared.term.Term.{Term}
+use Rattle.fzn_values.specs.declared.term.Term.{Term}
 use Rattle.fzn_sets.specs.Terms.{MayBe}
 
 -- the first number from this one up that is a member, or that is none

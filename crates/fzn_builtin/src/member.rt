@@ -5,7 +5,7 @@ ghost use Rattle.fzn_domain.specs.IntSet.{IntSet};
 ghost use Rattle.fzn_domain.specs.Limits.{IsInLimits};
 ghost use Rattle.fzn_domain.specs.Narrow.{NoneEmpty};
 ghost use Rattle.fzn_meaning.specs.Meaning.{IsSwitch};
-ghost use Rattle.fzn_meaning.specs.Term.{IsTerm};
+ghost use Rattle.fzn_values.specs.Term.{IsTerm};
 ghost use Rattle.fzn_terms.specs.Denied.{IsDenied};
 ghost use Rattle.fzn_terms.specs.Intervals.{IsLimitedInterval, ends_of};
 ghost use Rattle.fzn_terms.specs.Values.{IsTerm-prop};
@@ -13,7 +13,6 @@ ghost use Rattle.fzn_builtin.specs.Members.{IsNextAsked, NoneAsked, IsSwitchedTo
 
 use fzn_domain::{Domain, GREATEST_VALUE, LEAST_VALUE, Lit, Memory};
 use fzn_list::Items;
-use fzn_meaning::Term;
 use fzn_propagator::Findings;
 use fzn_rules::Rule;
 use fzn_terms::{
@@ -21,6 +20,7 @@ use fzn_terms::{
     next_value,
 };
 use fzn_trail::Trail;
+use fzn_values::Term;
 use std::alloc::Global;
 
 /// One pass over a membership, on a trail on which each present set has a value.

@@ -2,8 +2,8 @@
 use Rattle.std.proofs.Common.{◌≡◌, zero, suc, List, [], ◌∷◌, length, inl, inr, arith, ℤ, pos, negsuc, ◌+ℤ◌, ◌-ℤ◌, ◌*ℤ◌, ◌≤ℤ◌, refl}
 use Rattle.std.specs.List.{AllByRecursion, Any}
 use Rattle.std.proofs.lemmas.Int.{ints}
-use Rattle.fzn_meaning.specs.declared.term.Term.{Term}
-use Rattle.fzn_meaning.specs.Term.{term_value, values_of, product_at, sum_at}
+use Rattle.fzn_values.specs.declared.term.Term.{Term}
+use Rattle.fzn_values.specs.Term.{term_value, values_of, product_at, sum_at}
 use Rattle.fzn_meaning.specs.Meaning.{IsBit}
 use Rattle.fzn_builtin_rules.specs.Form.{place_with, each_with}
 use Rattle.fzn_builtin_rules.proofs.SumLemmas.{total_by-cons}

@@ -12,9 +12,9 @@ use Rattle.fzn_domain.specs.IntSet.{IntSet, contains, size, least, below}
 use Rattle.fzn_domain.specs.Narrow.{is_some_empty, set_of}
 use Rattle.fzn_domain.proofs.SetLemmas.{contains-least, least_le, least_is, contains-remove, size-remove, member_of_size, size_above_zero, same_by_members}
 use Rattle.fzn_domain.proofs.CountLemmas.{in_below, of_below}
-use Rattle.fzn_meaning.specs.declared.term.Term.{Term}
-use Rattle.fzn_meaning.specs.declared.term.Term.TheVariants.{Constant, Variable}
-use Rattle.fzn_meaning.specs.Term.{IsTerm}
+use Rattle.fzn_values.specs.declared.term.Term.{Term}
+use Rattle.fzn_values.specs.declared.term.Term.TheVariants.{Constant, Variable}
+use Rattle.fzn_values.specs.Term.{IsTerm}
 use Rattle.fzn_sets.specs.Terms.{MayBe}
 use Rattle.fzn_builtin_rules.specs.Choices.{count_of, choices, IsChoice}
 use Rattle.fzn_builtin_rules.specs.Numbered.{nth_member, nth_value, value_in, rest_in, choice_at}

@@ -6,11 +6,11 @@ use Rattle.std.proofs.Math.Nat.{mul-le-mul_left}
 use Rattle.std.proofs.Math.Seq.{drop-cons}
 use Rattle.fzn_domain.specs.IntSet.{IntSet}
 use Rattle.fzn_domain.specs.Narrow.{is_some_empty}
-use Rattle.fzn_meaning.specs.declared.term.Term.{Term}
-use Rattle.fzn_meaning.specs.declared.term.Place.{Place}
+use Rattle.fzn_values.specs.declared.term.Term.{Term}
+use Rattle.fzn_values.specs.declared.term.Place.{Place}
 use Rattle.fzn_meaning.specs.declared.constraint.Constraint.{Constraint}
 use Rattle.fzn_meaning.specs.declared.constraint.Constraint.TheVariants as constraint
-use Rattle.fzn_meaning.specs.Term.{IsTerm, IsPlace}
+use Rattle.fzn_values.specs.Term.{IsTerm, IsPlace}
 use Rattle.fzn_meaning.specs.Meaning.{IsWellFormedConstraint}
 use Rattle.fzn_builtin_rules.specs.Choices.{count_of, choices, inputs_of, result_of, Relates, NoneOf, NoChoiceFits}
 use Rattle.fzn_builtin_rules.specs.Numbered.{choice_at}

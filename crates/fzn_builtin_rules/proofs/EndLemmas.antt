@@ -5,8 +5,8 @@ use Rattle.std.proofs.lemmas.List.{take_more}
 use Rattle.std.proofs.Math.Nat.{mul-le-mul}
 use Rattle.fzn_domain.specs.IntSet.{IntSet}
 use Rattle.fzn_domain.specs.Limits.{IsInLimits}
-use Rattle.fzn_meaning.specs.declared.term.Place.{Place}
-use Rattle.fzn_meaning.specs.Term.{total_by}
+use Rattle.fzn_values.specs.declared.term.Place.{Place}
+use Rattle.fzn_values.specs.Term.{total_by}
 use Rattle.fzn_sets.specs.Terms.{least_value, greatest_value}
 use Rattle.fzn_builtin_rules.specs.Linear.{low_product, high_product}
 use Rattle.fzn_builtin_rules.specs.Ends.{AreProducts}

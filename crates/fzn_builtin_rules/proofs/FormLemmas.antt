@@ -4,7 +4,7 @@ use Rattle.std.specs.List.{AllByRecursion}
 use Rattle.std.proofs.lemmas.Int.{ints}
 use Rattle.std.proofs.lemmas.List.Elements.{recursion_from_All, All-from_recursion}
 use Rattle.std.proofs.lemmas.List.{length-map}
-use Rattle.fzn_meaning.specs.declared.term.Term.{Term}
+use Rattle.fzn_values.specs.declared.term.Term.{Term}
 use Rattle.fzn_meaning.specs.declared.relation.Relation.{Relation}
 use Rattle.fzn_meaning.specs.declared.relation.Relation.TheVariants as relation
 use Rattle.fzn_meaning.specs.declared.relation.Comparison.TheVariants.{AtMost}
@@ -13,7 +13,7 @@ use Rattle.fzn_meaning.specs.declared.boolean.Gate.{Gate}
 use Rattle.fzn_meaning.specs.declared.boolean.Gate.TheVariants.{And, Or}
 use Rattle.fzn_meaning.specs.declared.constraint.Constraint.{Constraint}
 use Rattle.fzn_meaning.specs.declared.constraint.Constraint.TheVariants as constraint
-use Rattle.fzn_meaning.specs.Term.{term_value, values_of, product_at, sum_at}
+use Rattle.fzn_values.specs.Term.{term_value, values_of, product_at, sum_at}
 use Rattle.fzn_meaning.specs.Comparisons.{IsRelated, IsSwitched}
 use Rattle.fzn_meaning.specs.Linear.{IsLinear}
 use Rattle.fzn_meaning.specs.Meaning.{Meets, switch_value, booleans_of, IsBit, HasBooleanValues}

@@ -3,11 +3,11 @@ use Rattle.std.proofs.Common.{◌≡◌, List, inl, inr, arith, ℤ, pos, Option
 use Rattle.std.proofs.lemmas.Int.{ints}
 use Rattle.fzn_domain.specs.IntSet.{IntSet}
 use Rattle.fzn_domain.specs.Narrow.{IsWithin}
-use Rattle.fzn_meaning.specs.declared.term.Term.{Term}
+use Rattle.fzn_values.specs.declared.term.Term.{Term}
 use Rattle.fzn_meaning.specs.declared.relation.Comparison.{Comparison}
 use Rattle.fzn_meaning.specs.declared.relation.Comparison.TheVariants.{AtMost, Equal, NotEqual}
 use Rattle.fzn_meaning.specs.declared.constraint.Constraint.{Constraint}
-use Rattle.fzn_meaning.specs.Term.{term_value, sum_at}
+use Rattle.fzn_values.specs.Term.{term_value, sum_at}
 use Rattle.fzn_meaning.specs.Comparisons.{IsSwitched}
 use Rattle.fzn_meaning.specs.Linear.{IsLinear}
 use Rattle.fzn_meaning.specs.Meaning.{Meets, switch_value, HasBooleanValues}

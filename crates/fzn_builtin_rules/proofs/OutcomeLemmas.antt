@@ -5,9 +5,9 @@ use Rattle.std.specs.Ordering.{int_eq}
 use Rattle.std.proofs.lemmas.Bool.{false≢true}
 use Rattle.std.proofs.Math.Seq.{take-append_seam, drop-append_seam}
 use Rattle.fzn_domain.specs.IntSet.{IntSet}
-use Rattle.fzn_meaning.specs.declared.term.Term.{Term}
+use Rattle.fzn_values.specs.declared.term.Term.{Term}
 use Rattle.fzn_meaning.specs.declared.boolean.Gate.TheVariants.{And, Or}
-use Rattle.fzn_meaning.specs.Entries.{IsIndex, entry_at}
+use Rattle.fzn_values.specs.Entries.{IsIndex, entry_at}
 use Rattle.fzn_meaning.specs.Comparisons.{IsSwitched}
 use Rattle.fzn_meaning.specs.Elements.{IsElement}
 use Rattle.fzn_meaning.specs.Booleans.{Passes, IsBoolClause}

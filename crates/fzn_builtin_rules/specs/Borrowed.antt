@@ -1,6 +1,6 @@
 -- The form that a borrowed one stands for.
 use Rattle.std.specs.Prelude.{pos, negsuc, List, [], ◌∷◌, ◌++◌}
-use Rattle.fzn_meaning.specs.declared.term.Place.{Place}
+use Rattle.fzn_values.specs.declared.term.Place.{Place}
 use Rattle.fzn_builtin_rules.specs.declared.form.Places.{Places}
 use Rattle.fzn_builtin_rules.specs.declared.form.Places.TheVariants.{Both, Difference, BothLess, All, AllLess, Minus, Less}
 use Rattle.fzn_builtin_rules.specs.declared.form.Form.{Form as Borrowed}

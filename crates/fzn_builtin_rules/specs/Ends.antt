@@ -1,7 +1,7 @@
 -- What a place gives at least and at most, as the code keeps it.
 use Rattle.std.specs.Prelude.{◌≡◌, ◌≤◌, List, unsigned_abs}
 use Rattle.fzn_domain.specs.IntSet.{IntSet}
-use Rattle.fzn_meaning.specs.declared.term.Place.{Place}
+use Rattle.fzn_values.specs.declared.term.Place.{Place}
 use Rattle.fzn_builtin_rules.specs.Linear.{low_product, high_product}
 use Rattle.fzn_builtin_rules.specs.declared.ends.Products.{Products}
 

@@ -4,8 +4,8 @@ use Rattle.std.specs.List.{All}
 use Rattle.fzn_list.specs.Limits.{longest}
 use Rattle.fzn_domain.specs.IntSet.{IntSet}
 use Rattle.fzn_domain.specs.Limits.{IsSmall}
-use Rattle.fzn_meaning.specs.declared.term.Term.{Term}
-use Rattle.fzn_meaning.specs.declared.term.Place.{Place}
+use Rattle.fzn_values.specs.declared.term.Term.{Term}
+use Rattle.fzn_values.specs.declared.term.Place.{Place}
 use Rattle.fzn_meaning.specs.declared.relation.Relation.{Relation}
 use Rattle.fzn_meaning.specs.declared.relation.Relation.TheVariants.{Equal, NotEqual, AtMost, Below}
 use Rattle.fzn_meaning.specs.declared.relation.Comparison.{Comparison}
@@ -15,7 +15,7 @@ use Rattle.fzn_meaning.specs.declared.boolean.Gate.{Gate}
 use Rattle.fzn_meaning.specs.declared.boolean.Gate.TheVariants.{And, Or}
 use Rattle.fzn_meaning.specs.declared.constraint.Constraint.{Constraint}
 use Rattle.fzn_meaning.specs.declared.constraint.Constraint.TheVariants.{Compare, BoolNot, BoolToInt, Linear, BoolLinEq, Arithmetic, Gated, BoolClause}
-use Rattle.fzn_meaning.specs.Term.{sum_at, IsPlace}
+use Rattle.fzn_values.specs.Term.{sum_at, IsPlace}
 use Rattle.fzn_meaning.specs.Comparisons.{IsSwitched}
 use Rattle.fzn_meaning.specs.Linear.{IsLinear}
 use Rattle.fzn_meaning.specs.Meaning.{switch_value, IsSwitch}

@@ -1,11 +1,11 @@
 -- The least and the greatest sum, each place by itself.
 use Rattle.std.specs.Prelude.{◌≡◌, ◌⊎◌, ℤ, pos, ◌*ℤ◌, ◌≤ℤ◌, ◌<ℤ◌, int_lt, if◌then◌else◌, List, Option, MatchOption}
 use Rattle.fzn_domain.specs.IntSet.{IntSet}
-use Rattle.fzn_meaning.specs.declared.term.Term.{Term}
-use Rattle.fzn_meaning.specs.declared.term.Place.{Place}
+use Rattle.fzn_values.specs.declared.term.Term.{Term}
+use Rattle.fzn_values.specs.declared.term.Place.{Place}
 use Rattle.fzn_meaning.specs.declared.relation.Comparison.{Comparison}
 use Rattle.fzn_meaning.specs.declared.relation.Comparison.TheVariants.{AtMost, Equal, NotEqual}
-use Rattle.fzn_meaning.specs.Term.{total_by}
+use Rattle.fzn_values.specs.Term.{total_by}
 use Rattle.fzn_sets.specs.Terms.{least_value, greatest_value, IsFixedTo}
 
 -- the value at which a place gives least, and the one at which it gives most

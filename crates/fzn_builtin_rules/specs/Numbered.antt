@@ -3,8 +3,8 @@ use Rattle.std.specs.Prelude.{◌≡◌, ◌≢◌, ◌⊎◌, pos, ℕ, zero, s
 use Rattle.std.specs.FinSet as set
 use Rattle.fzn_domain.specs.IntSet.{IntSet, least}
 use Rattle.fzn_domain.specs.Narrow.{set_of}
-use Rattle.fzn_meaning.specs.declared.term.Term.{Term}
-use Rattle.fzn_meaning.specs.declared.term.Term.TheVariants.{Constant, Variable}
+use Rattle.fzn_values.specs.declared.term.Term.{Term}
+use Rattle.fzn_values.specs.declared.term.Term.TheVariants.{Constant, Variable}
 use Rattle.fzn_meaning.specs.declared.extremum.Extreme.{Extreme}
 use Rattle.fzn_meaning.specs.declared.extremum.Extreme.TheVariants.{Least, Greatest}
 use Rattle.fzn_meaning.specs.declared.constraint.Constraint.{Constraint}

@@ -2,14 +2,15 @@
 ghost use Rattle.std.specs.Prelude.{◌≡◌, ◌↔◌, ◌*◌, ◌++◌, ◌<◌, ◌≤◌, IsTrue, false, length, map, IfNone, IfSome, IsSomeAnd};
 ghost use Rattle.std.specs.List.{All};
 ghost use Rattle.fzn_domain.specs.Narrow.{is_some_empty};
-ghost use Rattle.fzn_meaning.specs.Term.{IsTerm, IsPlace};
+ghost use Rattle.fzn_values.specs.Term.{IsTerm, IsPlace};
 ghost use Rattle.fzn_meaning.specs.Meaning.{IsWellFormedConstraint};
 ghost use Rattle.fzn_builtin_rules.specs.Choices.{inputs_of, count_of, choices, NoChoiceFits, IsFixedMet, IsEnumMet};
 
 use crate::numbered::count_of;
 use crate::outcome::fails_at;
-use fzn_meaning::{Constraint, Sum, Term};
+use fzn_meaning::{Constraint, Sum};
 use fzn_sets::Sets;
+use fzn_values::Term;
 
 /// The most choices that `enum` goes over.
 const MOST_CHOICES: usize = 4096;

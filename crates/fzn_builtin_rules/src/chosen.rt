@@ -4,14 +4,15 @@ ghost use Rattle.std.specs.List.{All, count_by};
 ghost use Rattle.std.specs.Ordering.{int_eq};
 ghost use Rattle.fzn_domain.specs.Limits.{IsInLimits};
 ghost use Rattle.fzn_domain.specs.Narrow.{is_some_empty};
-ghost use Rattle.fzn_meaning.specs.Term.{IsTerm, IsPlace};
+ghost use Rattle.fzn_values.specs.Term.{IsTerm, IsPlace};
 ghost use Rattle.fzn_meaning.specs.Extrema.{IsExtremum};
 ghost use Rattle.fzn_builtin_rules.specs.Choices.{weighted_sum};
 ghost use Rattle.fzn_builtin_rules.specs.Numbered.{value_in, choice_at, rest_after, further};
 
 use crate::numbered::{rest_in, value_in};
-use fzn_meaning::{Extreme, Place, Sum, Term};
+use fzn_meaning::{Extreme, Sum};
 use fzn_sets::Sets;
+use fzn_values::{Place, Term};
 
 /// How many of the terms have this value.
 pub(crate) fn count_value(sets: &Sets, terms: &[Term], number: usize, wanted: &i64) -> usize

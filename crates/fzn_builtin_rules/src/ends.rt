@@ -3,14 +3,14 @@ ghost use Rattle.std.specs.Prelude.{◌≡◌, ◌*◌, ◌≤◌, ◌≤ℤ◌,
 ghost use Rattle.std.specs.List.{All};
 ghost use Rattle.fzn_list.specs.Limits.{longest};
 ghost use Rattle.fzn_domain.specs.Narrow.{is_some_empty};
-ghost use Rattle.fzn_meaning.specs.Term.{IsPlace};
+ghost use Rattle.fzn_values.specs.Term.{IsPlace};
 ghost use Rattle.fzn_builtin_rules.specs.Linear.{least_sum, greatest_sum};
 ghost use Rattle.fzn_builtin_rules.specs.Ends.{HasSmallEnds, AreProducts};
 ghost use Rattle.fzn_builtin_rules.specs.Borrowed.{places_in};
 
 use crate::form::Places;
-use fzn_meaning::Place;
 use fzn_sets::{Sets, greatest_value, least_value};
+use fzn_values::Place;
 
 /// What a place gives at least and at most: its coefficient times a value of its term, so from -10^18 to 10^18.
 #[derive(Clone, Copy, Debug)]

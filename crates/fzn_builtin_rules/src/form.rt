@@ -1,12 +1,13 @@
 // The form of a constraint: a sum that compares with a bound.
 ghost use Rattle.std.specs.Prelude.{◌≡◌, ◌*◌, ◌<◌, ◌≤◌, pos, length, slice_index_or, Some, None, IfNone, IfSome};
 ghost use Rattle.fzn_list.specs.Limits.{longest};
-ghost use Rattle.fzn_meaning.specs.declared.term.Term.TheVariants.{Constant};
+ghost use Rattle.fzn_values.specs.declared.term.Term.TheVariants.{Constant};
 ghost use Rattle.fzn_meaning.specs.declared.relation.Comparison.TheVariants as sum;
 ghost use Rattle.fzn_builtin_rules.specs.Form.{form, form_of, comparison_of, bound_of, passing_bound, place_with};
 ghost use Rattle.fzn_builtin_rules.specs.Borrowed.{form_in, places_in};
 
-use fzn_meaning::{Comparison, Constraint, Gate, Operation, Place, Relation, Sum, Term};
+use fzn_meaning::{Comparison, Constraint, Gate, Operation, Relation, Sum};
+use fzn_values::{Place, Term};
 
 /// The places of a form's sum, borrowed from its constraint.
 #[derive(Clone, Copy)]

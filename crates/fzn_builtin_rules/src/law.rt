@@ -1,7 +1,7 @@
 // What the rules know of a constraint is what it means.
 ghost use Rattle.std.specs.Prelude.{◌↔◌, ℤ, List, IfSome};
 ghost use Rattle.fzn_meaning.specs.declared.constraint.Constraint.{Constraint};
-ghost use Rattle.fzn_meaning.specs.Term.{values_of};
+ghost use Rattle.fzn_values.specs.Term.{values_of};
 ghost use Rattle.fzn_meaning.specs.Meaning.{Meets, HasBooleanValues, switch_value};
 ghost use Rattle.fzn_builtin_rules.specs.Choices.{inputs_of, result_of, Relates};
 ghost use Rattle.fzn_builtin_rules.specs.Form.{form_of, FormHolds};

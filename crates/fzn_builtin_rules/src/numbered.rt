@@ -3,13 +3,13 @@ ghost use Rattle.std.specs.Prelude.{◌≡◌, ◌<◌, false, length};
 ghost use Rattle.fzn_domain.specs.IntSet.{size};
 ghost use Rattle.fzn_domain.specs.Limits.{IsInLimits};
 ghost use Rattle.fzn_domain.specs.Narrow.{is_some_empty};
-ghost use Rattle.fzn_meaning.specs.Term.{IsTerm};
+ghost use Rattle.fzn_values.specs.Term.{IsTerm};
 ghost use Rattle.fzn_builtin_rules.specs.Choices.{count_of};
 ghost use Rattle.fzn_builtin_rules.specs.Numbered.{nth_member, value_in, rest_in};
 
 use fzn_domain::Domain;
-use fzn_meaning::Term;
 use fzn_sets::Sets;
+use fzn_values::Term;
 
 /// How many values the term may have.
 #[tactic(auto, using(fzn_sets::proofs::CallerLemmas::some_value))]

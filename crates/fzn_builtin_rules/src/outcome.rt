@@ -4,7 +4,7 @@ ghost use Rattle.std.specs.List.{All, Any};
 ghost use Rattle.fzn_domain.specs.IntSet.{contains};
 ghost use Rattle.fzn_domain.specs.Limits.{IsInLimits};
 ghost use Rattle.fzn_domain.specs.Narrow.{is_some_empty};
-ghost use Rattle.fzn_meaning.specs.Term.{IsTerm};
+ghost use Rattle.fzn_values.specs.Term.{IsTerm};
 ghost use Rattle.fzn_meaning.specs.Comparisons.{IsRelated, IsSwitched};
 ghost use Rattle.fzn_meaning.specs.Linear.{IsLinear};
 ghost use Rattle.fzn_meaning.specs.Arithmetic.{IsArithmetic};
@@ -18,8 +18,9 @@ ghost use Rattle.fzn_builtin_rules.specs.Numbered.{value_in, rest_in, choice_at,
 
 use crate::chosen::{count_value, entry_in, extreme_in, rest_after, weighted_sum};
 use crate::numbered::{rest_in, value_in};
-use fzn_meaning::{Comparison, Constraint, Extreme, Gate, Operation, Relation, Term};
+use fzn_meaning::{Comparison, Constraint, Extreme, Gate, Operation, Relation};
 use fzn_sets::{Sets, greatest_value, is_fixed_to, is_index, least_value, may_be};
+use fzn_values::Term;
 
 /// Whether the choice with this number fits no value of the result.
 #[tactic(auto, unfolding(crate::specs::Choices::inputs_of, crate::specs::Choices::result_of, crate::specs::Choices::Relates, fzn_meaning::specs::Meaning::IsWellFormedConstraint))]

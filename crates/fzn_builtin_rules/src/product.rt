@@ -3,13 +3,14 @@ ghost use Rattle.std.specs.Prelude.{◌≡◌, ◌↔◌, ◌*ℤ◌, ◌<ℤ◌
 ghost use Rattle.std.specs.List.{All};
 ghost use Rattle.fzn_domain.specs.Narrow.{is_some_empty};
 ghost use Rattle.fzn_domain.specs.Limits.{IsInLimits};
-ghost use Rattle.fzn_meaning.specs.Term.{IsTerm};
+ghost use Rattle.fzn_values.specs.Term.{IsTerm};
 ghost use Rattle.fzn_meaning.specs.Meaning.{IsWellFormedConstraint};
 ghost use Rattle.fzn_sets.specs.Terms.{least_value, greatest_value};
 ghost use Rattle.fzn_builtin_rules.specs.Product.{corners, IsProductOut, IsArithmeticOut, IsBoxMet};
 
-use fzn_meaning::{Constraint, Operation, Term};
+use fzn_meaning::{Constraint, Operation};
 use fzn_sets::{Sets, greatest_value, least_value};
+use fzn_values::Term;
 
 /// Whether the bounds of a product exclude each value of the result. No set may be empty. `false` for any constraint but `int_times`.
 #[tactic(auto, unfolding(crate::specs::Product::IsBoxMet, fzn_meaning::specs::Meaning::IsWellFormedConstraint))]

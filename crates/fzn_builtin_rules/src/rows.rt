@@ -2,14 +2,15 @@
 ghost use Rattle.std.specs.Prelude.{◌≡◌, ◌↔◌, ◌≤◌, IsTrue, false, length};
 ghost use Rattle.std.specs.List.{All, Any};
 ghost use Rattle.fzn_domain.specs.Narrow.{is_some_empty};
-ghost use Rattle.fzn_meaning.specs.Term.{IsTerm};
+ghost use Rattle.fzn_values.specs.Term.{IsTerm};
 ghost use Rattle.fzn_meaning.specs.Meaning.{IsWellFormedConstraint, IsSwitch};
 ghost use Rattle.fzn_builtin_rules.specs.Rows.{AsksEquality, ShareNone, IsSetAvoided, IsInside, IsSetMissed, NoEntryFits, IsBeyond, NoAbsoluteFits, IsRowsMet};
 
 use crate::overlap::{absolutes_apart, are_apart, is_absolute_in, is_part_of};
 use fzn_domain::Domain;
-use fzn_meaning::{Constraint, Extreme, Relation, Term};
+use fzn_meaning::{Constraint, Extreme, Relation};
 use fzn_sets::{Sets, greatest_value, is_fixed_to, least_value, may_be};
+use fzn_values::Term;
 
 /// Whether the sets leave no value or no entry that the constraint asks for. No set may be empty. `false` for a constraint that the rule is
 /// not for.

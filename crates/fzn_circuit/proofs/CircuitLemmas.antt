@@ -11,9 +11,9 @@ use Rattle.fzn_domain.specs.declared.literal.Lit.{Lit}
 use Rattle.fzn_domain.specs.declared.literal.Op.TheVariants.{AtMost, AtLeast, Equal}
 use Rattle.fzn_domain.specs.IntSet.{IntSet}
 use Rattle.fzn_domain.specs.Narrow.{is_some_empty}
-use Rattle.fzn_meaning.specs.declared.term.Term.{Term}
+use Rattle.fzn_values.specs.declared.term.Term.{Term}
 use Rattle.fzn_meaning.specs.declared.constraint.Constraint.TheVariants.{Circuit}
-use Rattle.fzn_meaning.specs.Term.{IsTerm}
+use Rattle.fzn_values.specs.Term.{IsTerm}
 use Rattle.fzn_rules.specs.declared.rule.Rule.TheVariants.{Rows, Hall}
 use Rattle.fzn_rules.specs.Rules.{IsMet}
 use Rattle.fzn_sets.specs.Terms.{least_value, greatest_value, IsFixedTo}

@@ -9,10 +9,10 @@ use Rattle.fzn_domain.specs.declared.literal.Op.TheVariants.{AtMost, AtLeast}
 use Rattle.fzn_domain.specs.Ascending.{IsAscending}
 use Rattle.fzn_domain.specs.IntSet.{IntSet, contains}
 use Rattle.fzn_domain.specs.Narrow.{IsVariable, set_of}
-use Rattle.fzn_meaning.specs.declared.term.Term.{Term}
-use Rattle.fzn_meaning.specs.declared.term.Term.TheVariants.{Variable}
+use Rattle.fzn_values.specs.declared.term.Term.{Term}
+use Rattle.fzn_values.specs.declared.term.Term.TheVariants.{Variable}
 use Rattle.fzn_meaning.specs.declared.constraint.Constraint.TheVariants.{Circuit}
-use Rattle.fzn_meaning.specs.Entries.{IsIndex}
+use Rattle.fzn_values.specs.Entries.{IsIndex}
 use Rattle.fzn_rules.specs.declared.rule.Rule.TheVariants.{Cut}
 use Rattle.fzn_rules.specs.Rules.{IsMet}
 use Rattle.fzn_sets.specs.Terms.{MayBe, term_at}

@@ -1,6 +1,6 @@
 -- A circuit's propagator waits for each successor.
 use Rattle.std.proofs.Common.{◌≡◌, List, sym, subst}
-use Rattle.fzn_meaning.specs.declared.term.Term.{Term}
+use Rattle.fzn_values.specs.declared.term.Term.{Term}
 use Rattle.fzn_meaning.specs.declared.constraint.Constraint.{Constraint}
 use Rattle.fzn_meaning.specs.declared.constraint.Constraint.TheVariants.{Circuit}
 use Rattle.fzn_propagator.specs.declared.event.Event.{Event}

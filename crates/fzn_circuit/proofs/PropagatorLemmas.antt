@@ -4,14 +4,14 @@ use Rattle.std.proofs.lemmas.Int.{ints}
 use Rattle.std.proofs.lemmas.List.Elements.{All-get_or, All-from_get_or}
 use Rattle.fzn_domain.specs.IntSet.{IntSet}
 use Rattle.fzn_domain.specs.Narrow.{IsWithin}
-use Rattle.fzn_meaning.specs.declared.term.Term.{Term}
-use Rattle.fzn_meaning.specs.declared.term.Term.TheVariants.{Constant}
+use Rattle.fzn_values.specs.declared.term.Term.{Term}
+use Rattle.fzn_values.specs.declared.term.Term.TheVariants.{Constant}
 use Rattle.fzn_meaning.specs.declared.constraint.Constraint.{Constraint}
 use Rattle.fzn_meaning.specs.declared.constraint.Constraint.TheVariants.{Circuit}
-use Rattle.fzn_meaning.specs.Entries.{IsIndex}
-use Rattle.fzn_meaning.specs.Term.{IsTerm, term_value, values_of}
+use Rattle.fzn_values.specs.Entries.{IsIndex}
+use Rattle.fzn_values.specs.Term.{IsTerm, term_value, values_of}
 use Rattle.fzn_meaning.specs.Meaning.{Meets, AreTerms}
-use Rattle.fzn_meaning.proofs.CallerLemmas.{length-values_of, get_or-values_of}
+use Rattle.fzn_values.proofs.CallerLemmas.{length-values_of, get_or-values_of}
 use Rattle.fzn_sets.proofs.CallerLemmas.{MayBe-term_value}
 use Rattle.fzn_sets.specs.Terms.{IsFixedTo}
 use Rattle.fzn_builtin_rules.specs.Form.{form_of}

@@ -16,12 +16,12 @@ use Rattle.fzn_domain.specs.IntSet.{IntSet, contains, size, no_values}
 use Rattle.fzn_domain.specs.Narrow.{NoneEmpty, set_of}
 use Rattle.fzn_domain.proofs.SetLemmas.{member_of_size, contains-least}
 use Rattle.fzn_list.specs.Limits.{longest}
-use Rattle.fzn_meaning.specs.declared.term.Term.{Term}
-use Rattle.fzn_meaning.specs.declared.term.Term.TheVariants.{Constant, Variable}
+use Rattle.fzn_values.specs.declared.term.Term.{Term}
+use Rattle.fzn_values.specs.declared.term.Term.TheVariants.{Constant, Variable}
 use Rattle.fzn_meaning.specs.declared.constraint.Constraint.TheVariants.{Circuit}
-use Rattle.fzn_meaning.specs.Circuit.{reached_from}
-use Rattle.fzn_meaning.specs.Entries.{IsIndex, entry_at}
-use Rattle.fzn_meaning.specs.Term.{IsTerm}
+use Rattle.fzn_values.specs.Circuit.{reached_from}
+use Rattle.fzn_values.specs.Entries.{IsIndex, entry_at}
+use Rattle.fzn_values.specs.Term.{IsTerm}
 use Rattle.fzn_sets.proofs.TermLemmas.{IsTerm-term_at}
 use Rattle.fzn_rules.specs.declared.rule.Rule.TheVariants.{Cut}
 use Rattle.fzn_rules.specs.Rules.{IsMet}

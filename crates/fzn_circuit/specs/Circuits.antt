@@ -5,12 +5,12 @@ use Rattle.std.proofs.Props.{props}
 use Rattle.fzn_domain.specs.declared.literal.Lit.{Lit}
 use Rattle.fzn_domain.specs.IntSet.{IntSet}
 use Rattle.fzn_domain.specs.Narrow.{AllFixed, IsWithin}
-use Rattle.fzn_meaning.specs.declared.term.Term.{Term}
-use Rattle.fzn_meaning.specs.declared.term.Term.TheVariants.{Constant}
-use Rattle.fzn_meaning.specs.AllDifferent.{IsAllDifferent}
-use Rattle.fzn_meaning.specs.Circuit.{reached_from}
-use Rattle.fzn_meaning.specs.Entries.{IsIndex}
-use Rattle.fzn_meaning.specs.Term.{IsTerm, values_of}
+use Rattle.fzn_values.specs.declared.term.Term.{Term}
+use Rattle.fzn_values.specs.declared.term.Term.TheVariants.{Constant}
+use Rattle.fzn_values.specs.AllDifferent.{IsAllDifferent}
+use Rattle.fzn_values.specs.Circuit.{reached_from}
+use Rattle.fzn_values.specs.Entries.{IsIndex}
+use Rattle.fzn_values.specs.Term.{IsTerm, values_of}
 use Rattle.fzn_meaning.specs.Meaning.{AreTerms}
 use Rattle.fzn_sets.specs.Terms.{IsFixedTo, term_at}
 use Rattle.fzn_rules.specs.Cut.{LeadsInto}

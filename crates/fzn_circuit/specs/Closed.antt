@@ -3,8 +3,8 @@ use Rattle.std.specs.Prelude.{◌≤ℤ◌, ℤ, List}
 use Rattle.std.specs.List.{Contains}
 use Rattle.fzn_domain.specs.declared.literal.VarId.{VarId}
 use Rattle.fzn_domain.specs.IntSet.{IntSet}
-use Rattle.fzn_meaning.specs.declared.term.Term.{Term}
-use Rattle.fzn_meaning.specs.declared.term.Term.TheVariants.{Variable}
+use Rattle.fzn_values.specs.declared.term.Term.{Term}
+use Rattle.fzn_values.specs.declared.term.Term.TheVariants.{Variable}
 use Rattle.fzn_sets.specs.Terms.{MayBe}
 
 -- the value, where the term may have it, is one of the places

@@ -4,7 +4,7 @@ ghost use Rattle.std.specs.List.{All, Contains};
 ghost use Rattle.std.specs.List.Sorted.{IsSorted};
 ghost use Rattle.std.specs.Ordering.{int_cmp};
 ghost use Rattle.fzn_domain.specs.Ascending.{IsAscending};
-ghost use Rattle.fzn_meaning.specs.Entries.{IsIndex};
+ghost use Rattle.fzn_values.specs.Entries.{IsIndex};
 ghost use Rattle.fzn_sets.specs.Terms.{IsFixedTo, term_at};
 ghost use Rattle.fzn_propagator.specs.Clause.{IsFalseClause};
 ghost use Rattle.fzn_circuit.specs.Circuits.{IsWay, IsAtEnd, HasNoShortWay};

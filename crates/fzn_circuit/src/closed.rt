@@ -4,7 +4,7 @@ ghost use Rattle.std.specs.List.{Contains};
 ghost use Rattle.fzn_domain.specs.Ascending.{IsAscending};
 ghost use Rattle.fzn_domain.specs.Limits.{IsInLimits};
 ghost use Rattle.fzn_domain.specs.Narrow.{IsVariable};
-ghost use Rattle.fzn_meaning.specs.Term.{IsTerm};
+ghost use Rattle.fzn_values.specs.Term.{IsTerm};
 ghost use Rattle.fzn_rules.specs.Cut.{LeadsInto};
 ghost use Rattle.fzn_terms.specs.Denied.{IsGrown};
 ghost use Rattle.fzn_propagator.specs.Clause.{IsFalseClause};
@@ -15,11 +15,11 @@ use crate::pass::Pass;
 use crate::walk::closed_places;
 use fzn_domain::{Domain, Lit, Memory, VarId, place_of};
 use fzn_list::Items;
-use fzn_meaning::Term;
 use fzn_propagator::Findings;
 use fzn_rules::Rule;
 use fzn_sets::{is_index, term_at};
 use fzn_terms::{Claim, explain, greatest_of, least_of, may_be};
+use fzn_values::Term;
 
 /// A clause of more literals is no inference: its line may be too long.
 const MOST_LITERALS: usize = 20_000;

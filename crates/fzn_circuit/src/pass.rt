@@ -4,8 +4,8 @@ ghost use Rattle.fzn_domain.specs.Narrow.{NoneEmpty};
 ghost use Rattle.fzn_meaning.specs.Meaning.{AreTerms};
 ghost use Rattle.fzn_circuit.specs.Circuits.{AreSuccessors-prop};
 
-use fzn_meaning::Term;
 use fzn_trail::Trail;
+use fzn_values::Term;
 use std::alloc::Global;
 
 /// One pass over the places of a circuit, as their successors stand on a trail on which each present set has a value.

@@ -2,8 +2,8 @@
 ghost use Rattle.std.specs.Prelude.{◌≡◌, ◌-◌, ◌<◌, ◌≤◌, pos, List, [], length, IfOk, IfSome, IfNone, OnOk, slice_index_or};
 ghost use Rattle.fzn_meaning.specs.declared.constraint.Constraint.{Constraint};
 ghost use Rattle.fzn_meaning.specs.declared.constraint.Constraint.TheVariants as constraint;
-ghost use Rattle.fzn_meaning.specs.declared.term.Term.{Term};
-ghost use Rattle.fzn_meaning.specs.Term.{IsTerm};
+ghost use Rattle.fzn_values.specs.declared.term.Term.{Term};
+ghost use Rattle.fzn_values.specs.Term.{IsTerm};
 ghost use Rattle.fzn_domain.specs.IntSet.{IntSet};
 ghost use Rattle.fzn_meaning.specs.Solutions.{declared_sets};
 ghost use Rattle.fzn_meaning.specs.WellFormed.{IsWellFormed};
@@ -23,11 +23,12 @@ use crate::same::{find_same, has_open};
 use crate::ways::starts_of;
 use fzn_domain::Memory;
 use fzn_list::{Items, Shared};
-use fzn_meaning::{Constraint, Model, Term};
+use fzn_meaning::{Constraint, Model};
 use fzn_propagator::{Cost, Event, Findings, Propagator, Subscriptions};
 use fzn_rules::Rule;
 use fzn_terms::{Claim, force, is_denied};
 use fzn_trail::Trail;
+use fzn_values::Term;
 use std::alloc::Global;
 
 /// What reasons for one `fzn_circuit`. Places that lead only to one another are found by the walk of R. Tarjan, Depth-first search and

@@ -1,17 +1,17 @@
 // Two successors that are the same: by the rule `hall`.
 ghost use Rattle.std.specs.Prelude.{◌≡◌, ◌<◌, [], length, IsTrue, OnOk};
-ghost use Rattle.fzn_meaning.specs.Term.{IsTerm};
+ghost use Rattle.fzn_values.specs.Term.{IsTerm};
 ghost use Rattle.fzn_circuit.specs.Circuits.{HaveNoCommonValue, AreDifferent, HasOpenSuccessor, owner_of};
 ghost use Rattle.fzn_circuit.specs.Passes.{AreFoundOfCircuit};
 
 use crate::pass::Pass;
 use fzn_domain::Memory;
 use fzn_list::Items;
-use fzn_meaning::Term;
 use fzn_propagator::Findings;
 use fzn_rules::Rule;
 use fzn_terms::{Claim, explain, force, greatest_of, is_fixed, least_of, may_be, next_value};
 use fzn_trail::Trail;
+use fzn_values::Term;
 
 /// Finds for each successor that has one value since the last level began that no other has it.
 pub(crate) fn find_same(pass: &Pass, found: &mut Findings) -> Result<(), Memory>

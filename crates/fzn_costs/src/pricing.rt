@@ -5,7 +5,8 @@ ghost use Rattle.fzn_costs.specs.Free.{CostsNothing};
 
 use crate::costs::{Costs, Price};
 use fzn_domain::Memory;
-use fzn_meaning::{Comparison, Constraint, Goal, Model, Place, Relation, Sum, Term};
+use fzn_meaning::{Comparison, Constraint, Goal, Model, Relation, Sum};
+use fzn_values::{Place, Term};
 use std::alloc::Global;
 use std::slice;
 

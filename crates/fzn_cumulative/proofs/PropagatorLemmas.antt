@@ -10,15 +10,15 @@ use Rattle.fzn_domain.specs.declared.literal.Op.TheVariants.{AtMost}
 use Rattle.fzn_domain.specs.IntSet.{IntSet}
 use Rattle.fzn_domain.specs.Limits.{IsInLimits}
 use Rattle.fzn_domain.specs.Narrow.{IsWithin}
-use Rattle.fzn_meaning.specs.declared.term.Term.{Term}
-use Rattle.fzn_meaning.specs.declared.term.Term.TheVariants.{Constant}
+use Rattle.fzn_values.specs.declared.term.Term.{Term}
+use Rattle.fzn_values.specs.declared.term.Term.TheVariants.{Constant}
 use Rattle.fzn_meaning.specs.declared.constraint.Constraint.{Constraint}
 use Rattle.fzn_meaning.specs.declared.constraint.Constraint.TheVariants.{Cumulative}
-use Rattle.fzn_meaning.specs.Cumulative.{tasks, load_at, IsCumulative}
-use Rattle.fzn_meaning.specs.Term.{IsTerm, term_value, values_of}
+use Rattle.fzn_values.specs.Cumulative.{tasks, load_at, IsCumulative}
+use Rattle.fzn_values.specs.Term.{IsTerm, term_value, values_of}
 use Rattle.fzn_meaning.specs.Meaning.{Meets, IsWellFormedConstraint}
-use Rattle.fzn_meaning.proofs.CallerLemmas.{All-values_of}
-use Rattle.fzn_meaning.proofs.CumulativeLemmas.{cumulative_from}
+use Rattle.fzn_values.proofs.CallerLemmas.{All-values_of}
+use Rattle.fzn_values.proofs.CumulativeLemmas.{cumulative_from}
 use Rattle.fzn_sets.proofs.CallerLemmas.{MayBe-term_value}
 use Rattle.fzn_sets.proofs.ValueLemmas.{MayBe-ends}
 use Rattle.fzn_sets.specs.Terms.{least_value, greatest_value}

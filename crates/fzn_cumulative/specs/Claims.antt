@@ -3,7 +3,7 @@ use Rattle.std.specs.Prelude.{◌⊎◌, ℕ, ℤ, pos, negsuc, ◌+ℤ◌, ◌-
 use Rattle.std.specs.Int.{int_max}
 use Rattle.fzn_domain.specs.declared.literal.Op.TheVariants.{AtMost, AtLeast}
 use Rattle.fzn_domain.specs.IntSet.{IntSet}
-use Rattle.fzn_meaning.specs.declared.term.Term.{Term}
+use Rattle.fzn_values.specs.declared.term.Term.{Term}
 use Rattle.fzn_terms.specs.Denied.{that, IsDenied}
 use Rattle.fzn_terms.specs.declared.claim.Claim.{Claim}
 use Rattle.fzn_cumulative.specs.declared.tasks.Tasks.{Tasks}

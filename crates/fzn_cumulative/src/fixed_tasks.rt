@@ -2,15 +2,16 @@
 ghost use Rattle.std.specs.Prelude.{◌≡◌, ◌↔◌, [], length, IsTrue, IfOk};
 ghost use Rattle.std.specs.List.{All};
 ghost use Rattle.fzn_meaning.specs.Meaning.{AreTerms, Meets};
-ghost use Rattle.fzn_meaning.specs.Term.{IsTerm};
+ghost use Rattle.fzn_values.specs.Term.{IsTerm};
 ghost use Rattle.fzn_cumulative.specs.Kept.{HasNoneBelow, least_terms, least_cumulative};
 ghost use Rattle.fzn_cumulative.specs.Passes.{tasks_of};
 
 use crate::pass::Pass;
 use fzn_domain::Memory;
 use fzn_list::{Items, Shared};
-use fzn_meaning::{Constraint, Term, holds};
+use fzn_meaning::{Constraint, holds};
 use fzn_terms::least_of;
+use fzn_values::Term;
 
 /// Whether the tasks keep the capacity where each of their terms has its least value.
 pub(crate) fn is_kept_at_least(pass: &Pass) -> Result<bool, Memory>

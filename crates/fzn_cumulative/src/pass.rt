@@ -1,11 +1,11 @@
 // What a pass of the propagator reads.
 ghost use Rattle.std.specs.Prelude.{◌≡◌, ◌<◌, length};
 ghost use Rattle.fzn_domain.specs.Narrow.{NoneEmpty};
-ghost use Rattle.fzn_meaning.specs.Term.{IsTerm};
+ghost use Rattle.fzn_values.specs.Term.{IsTerm};
 ghost use Rattle.fzn_cumulative.specs.Loads.{AreReady, AreReady-prop};
 
-use fzn_meaning::Term;
 use fzn_trail::Trail;
+use fzn_values::Term;
 use std::alloc::Global;
 
 /// One pass over the tasks of a cumulative, as they stand on a trail on which each present set has a value.

@@ -5,8 +5,8 @@ ghost use Rattle.fzn_domain.specs.declared.literal.Lit.{Lit};
 ghost use Rattle.fzn_domain.specs.IntSet.{IntSet};
 ghost use Rattle.fzn_meaning.specs.declared.constraint.Constraint.{Constraint};
 ghost use Rattle.fzn_meaning.specs.declared.constraint.Constraint.TheVariants as constraint;
-ghost use Rattle.fzn_meaning.specs.declared.term.Term.{Term};
-ghost use Rattle.fzn_meaning.specs.Term.{IsTerm};
+ghost use Rattle.fzn_values.specs.declared.term.Term.{Term};
+ghost use Rattle.fzn_values.specs.Term.{IsTerm};
 ghost use Rattle.fzn_meaning.specs.Solutions.{declared_sets};
 ghost use Rattle.fzn_meaning.specs.WellFormed.{IsWellFormed};
 ghost use Rattle.fzn_rules.specs.declared.rule.Rule.TheVariants as rule;
@@ -23,11 +23,12 @@ use crate::pass::Pass;
 use crate::tasks::Tasks;
 use fzn_domain::{Lit, Memory};
 use fzn_list::{Items, Shared};
-use fzn_meaning::{Constraint, Model, Term};
+use fzn_meaning::{Constraint, Model};
 use fzn_propagator::{Cost, Event, Findings, Propagator, Subscriptions};
 use fzn_rules::Rule;
 use fzn_terms::{Claim, force};
 use fzn_trail::Trail;
+use fzn_values::Term;
 use std::alloc::Global;
 
 /// What reasons for one `fzn_cumulative`: at single times by the rule `load`, and between two by `energy`.

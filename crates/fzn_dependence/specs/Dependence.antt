@@ -1,6 +1,6 @@
 -- The value of a variable at each value of the one that decides it.
 use Rattle.std.specs.Prelude.{ℤ, pos, ◌+ℤ◌, ◌-ℤ◌, ◌*ℤ◌, Option, None, Some}
-use Rattle.fzn_meaning.specs.Term.{numbers_in}
+use Rattle.fzn_values.specs.Term.{numbers_in}
 use Rattle.fzn_dependence.specs.declared.dependence.Affine.{Affine}
 use Rattle.fzn_dependence.specs.declared.dependence.Dependence.{Dependence}
 use Rattle.fzn_dependence.specs.declared.dependence.Dependence.TheVariants.{Nothing, Entry, Switch, Equation}

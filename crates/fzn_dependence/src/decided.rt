@@ -11,7 +11,8 @@ ghost use Rattle.fzn_dependence.specs.Dependence.{dependent_at};
 use crate::dependence::Dependence;
 use fzn_builtin_rules::{Form, Places, form_of};
 use fzn_domain::VarId;
-use fzn_meaning::{Comparison, Constraint, Term};
+use fzn_meaning::{Comparison, Constraint};
+use fzn_values::Term;
 
 /// A variable that decides another one.
 #[derive(Clone, Copy)]

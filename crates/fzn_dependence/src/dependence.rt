@@ -2,13 +2,14 @@
 ghost use Rattle.std.specs.Prelude.{◌≡◌, ◌*◌, ◌≤◌, ℤ, pos, ◌-ℤ◌, length, unsigned_abs};
 ghost use Rattle.std.specs.List.{All};
 ghost use Rattle.fzn_list.specs.Limits.{longest};
-ghost use Rattle.fzn_meaning.specs.Term.{numbers_in};
+ghost use Rattle.fzn_values.specs.Term.{numbers_in};
 ghost use Rattle.fzn_builtin_rules.specs.Borrowed.{places_in, form_in};
 ghost use Rattle.fzn_dependence.specs.Decided.{sum_where, coefficient_besides, sum_compares, quotient, form_value, entry_number, HasSmallNumbers, AreBounded};
 
 use fzn_builtin_rules::{Form, Places};
 use fzn_domain::VarId;
-use fzn_meaning::{Comparison, Term, plus_product};
+use fzn_meaning::{Comparison, plus_product};
+use fzn_values::Term;
 
 /// A sum, by the value of one of its variables.
 #[derive(Clone, Copy)]

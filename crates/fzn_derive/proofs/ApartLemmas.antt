@@ -10,19 +10,19 @@ use Rattle.std.proofs.Math.IntN.{zero-*ℤ, pos-*ℤ-pos, pos-*ℤ-negsuc, negsu
 use Rattle.fzn_domain.specs.declared.literal.VarId.{VarId}
 use Rattle.fzn_domain.specs.IntSet.{IntSet}
 use Rattle.fzn_domain.specs.Narrow.{IsVariable, value_of}
-use Rattle.fzn_meaning.specs.declared.term.Term.{Term}
-use Rattle.fzn_meaning.specs.declared.term.Term.TheVariants.{Variable}
-use Rattle.fzn_meaning.specs.declared.term.Place.{Place}
+use Rattle.fzn_values.specs.declared.term.Term.{Term}
+use Rattle.fzn_values.specs.declared.term.Term.TheVariants.{Variable}
+use Rattle.fzn_values.specs.declared.term.Place.{Place}
 use Rattle.fzn_meaning.specs.declared.relation.Relation.TheVariants as relation
 use Rattle.fzn_meaning.specs.declared.relation.Comparison.TheVariants as comparison
 use Rattle.fzn_meaning.specs.declared.constraint.Constraint.{Constraint}
 use Rattle.fzn_meaning.specs.declared.constraint.Constraint.TheVariants as constraint
-use Rattle.fzn_meaning.specs.Term.{term_value, values_of, sum_at, IsTerm}
-use Rattle.fzn_meaning.specs.Entries.{IsIndex, entry_at}
-use Rattle.fzn_meaning.specs.AllDifferent.{IsAllDifferent}
-use Rattle.fzn_meaning.specs.Inverse.{IsInverse}
+use Rattle.fzn_values.specs.Term.{term_value, values_of, sum_at, IsTerm}
+use Rattle.fzn_values.specs.Entries.{IsIndex, entry_at}
+use Rattle.fzn_values.specs.AllDifferent.{IsAllDifferent}
+use Rattle.fzn_values.specs.Inverse.{IsInverse}
 use Rattle.fzn_meaning.specs.Meaning.{Meets, IsWellFormedConstraint, AreTerms, HasBooleanSets, IsBoolean, booleans_of}
-use Rattle.fzn_meaning.proofs.CircuitLemmas.{circuit-different}
+use Rattle.fzn_values.proofs.CircuitLemmas.{circuit-different}
 use Rattle.fzn_cited.specs.declared.fault.DeriveFault.{DeriveFault}
 use Rattle.fzn_cited.specs.declared.fault.DeriveFault.TheVariants as faults
 use Rattle.fzn_cited.specs.Cited.{constraint_at}

@@ -1,6 +1,6 @@
 -- Coefficients and constants of places, one place after another.
 use Rattle.std.proofs.Common.{◌≡◌, ℕ, List, [], ◌∷◌, ◌++◌, refl, pos, ◌+ℤ◌}
-use Rattle.fzn_meaning.specs.declared.term.Place.{Place}
+use Rattle.fzn_values.specs.declared.term.Place.{Place}
 use Rattle.fzn_builtin_rules.proofs.CallerLemmas.{total_by-cons, total_by-append}
 use Rattle.fzn_derive.specs.Merged.{own_coefficient, coefficient_of, own_constant, constant_of}
 

@@ -5,11 +5,11 @@ use Rattle.std.specs.Ordering.{int_eq}
 use Rattle.std.proofs.lemmas.Int.{ints}
 use Rattle.std.proofs.lemmas.Bool.{eq-eqb, ne_eqb, cases_eq, not-false}
 use Rattle.std.proofs.lemmas.Bool.Decides.{Decides-int_eq}
-use Rattle.fzn_meaning.specs.declared.term.Term.{Term}
-use Rattle.fzn_meaning.specs.declared.term.Term.TheVariants.{Constant, Variable}
-use Rattle.fzn_meaning.specs.declared.term.Place.{Place}
+use Rattle.fzn_values.specs.declared.term.Term.{Term}
+use Rattle.fzn_values.specs.declared.term.Term.TheVariants.{Constant, Variable}
+use Rattle.fzn_values.specs.declared.term.Place.{Place}
 use Rattle.fzn_domain.specs.Narrow.{IsVariable, value_of}
-use Rattle.fzn_meaning.specs.Term.{term_value, product_at, sum_at}
+use Rattle.fzn_values.specs.Term.{term_value, product_at, sum_at}
 use Rattle.fzn_builtin_rules.proofs.CallerLemmas.{total_by-cons}
 use Rattle.fzn_derive.specs.Merged.{own_coefficient, coefficient_of, own_constant, constant_of, whole, has_weight, merged}
 use Rattle.fzn_derive.proofs.IntLemmas.{plus_times, zero_times}

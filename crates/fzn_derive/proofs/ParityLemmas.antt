@@ -10,12 +10,12 @@ use Rattle.std.proofs.lemmas.Bool.{cases_Bool, ne_eqb, eq-eqb}
 use Rattle.std.proofs.lemmas.Bool.Decides.{Decides-int_eq}
 use Rattle.fzn_domain.specs.IntSet.{IntSet}
 use Rattle.fzn_domain.specs.Narrow.{IsWithin, value_of}
-use Rattle.fzn_meaning.specs.declared.term.Term.{Term}
-use Rattle.fzn_meaning.specs.declared.term.Term.TheVariants.{Constant, Variable}
+use Rattle.fzn_values.specs.declared.term.Term.{Term}
+use Rattle.fzn_values.specs.declared.term.Term.TheVariants.{Constant, Variable}
 use Rattle.fzn_meaning.specs.declared.relation.Relation.TheVariants as relation
 use Rattle.fzn_meaning.specs.declared.constraint.Constraint.{Constraint}
 use Rattle.fzn_meaning.specs.declared.constraint.Constraint.TheVariants as constraint
-use Rattle.fzn_meaning.specs.Term.{term_value, values_of}
+use Rattle.fzn_values.specs.Term.{term_value, values_of}
 use Rattle.fzn_meaning.specs.Booleans.{IsBoolXor}
 use Rattle.fzn_meaning.specs.Meaning.{Meets, IsBit, IsBoolean, booleans_of}
 use Rattle.fzn_meaning.proofs.CutLemmas.{bits-choice}

@@ -7,13 +7,13 @@ use Rattle.std.proofs.lemmas.Bool.Decides.{Decides-int_eq}
 use Rattle.std.proofs.lemmas.List.FromFn.{length-map-range_with_len, get_or-map-range_with_len}
 use Rattle.std.proofs.lemmas.List.Elements.{All-filter, All-map, All-contains, Contains-get_or, recursion_from_All, All-from_recursion}
 use Rattle.fzn_domain.specs.Limits.{IsSmall}
-use Rattle.fzn_meaning.specs.declared.term.Term.{Term}
-use Rattle.fzn_meaning.specs.declared.term.Term.TheVariants.{Constant, Variable}
-use Rattle.fzn_meaning.specs.declared.term.Place.{Place}
+use Rattle.fzn_values.specs.declared.term.Term.{Term}
+use Rattle.fzn_values.specs.declared.term.Term.TheVariants.{Constant, Variable}
+use Rattle.fzn_values.specs.declared.term.Place.{Place}
 use Rattle.fzn_meaning.specs.declared.relation.Comparison.TheVariants.{AtMost}
 use Rattle.fzn_meaning.specs.declared.constraint.Constraint.{Constraint}
 use Rattle.fzn_meaning.specs.declared.constraint.Constraint.TheVariants.{Linear}
-use Rattle.fzn_meaning.specs.Term.{number_in, weighted}
+use Rattle.fzn_values.specs.Term.{number_in, weighted}
 use Rattle.fzn_cited.specs.declared.multiple.Multiple.{Multiple}
 use Rattle.fzn_derive.specs.declared.adder.Cell.{Cell}
 use Rattle.fzn_derive.specs.declared.adder.Adder.{Adder}

@@ -4,9 +4,9 @@ use Rattle.std.specs.List.{All, zip}
 use Rattle.fzn_list.specs.Limits.{longest}
 use Rattle.fzn_domain.specs.declared.literal.VarId.{VarId}
 use Rattle.fzn_domain.specs.Narrow.{IsVariable}
-use Rattle.fzn_meaning.specs.declared.term.Term.{Term}
-use Rattle.fzn_meaning.specs.declared.term.Term.TheVariants.{Variable}
-use Rattle.fzn_meaning.specs.declared.term.Place.{Place}
+use Rattle.fzn_values.specs.declared.term.Term.{Term}
+use Rattle.fzn_values.specs.declared.term.Term.TheVariants.{Variable}
+use Rattle.fzn_values.specs.declared.term.Place.{Place}
 use Rattle.fzn_meaning.specs.declared.relation.Relation.TheVariants.{NotEqual}
 use Rattle.fzn_meaning.specs.declared.relation.Comparison.TheVariants as sum
 use Rattle.fzn_meaning.specs.declared.constraint.Constraint.{Constraint}

@@ -1,9 +1,9 @@
 -- The room in which constraints are added up.
 use Rattle.std.specs.Prelude.{◌≡◌, ◌⊎◌, ℕ, ◌+◌, ◌-◌, ◌<◌, false, ℤ, pos, ◌+ℤ◌, ◌-ℤ◌, ◌*ℤ◌, List, [], map, length, replicate, slice_index_or, Some}
 use Rattle.std.specs.List.{All, AllPairs, Contains, filter, range_with_len}
-use Rattle.fzn_meaning.specs.declared.term.Term.{Term}
-use Rattle.fzn_meaning.specs.declared.term.Term.TheVariants.{Constant, Variable}
-use Rattle.fzn_meaning.specs.declared.term.Place.{Place}
+use Rattle.fzn_values.specs.declared.term.Term.{Term}
+use Rattle.fzn_values.specs.declared.term.Term.TheVariants.{Constant, Variable}
+use Rattle.fzn_values.specs.declared.term.Place.{Place}
 use Rattle.fzn_meaning.specs.declared.constraint.Constraint.{Constraint}
 pub use Rattle.fzn_meaning.specs.Separable.{IsWithinLimit}
 use Rattle.fzn_builtin_rules.specs.Form.{Form}

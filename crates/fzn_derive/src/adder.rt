@@ -3,7 +3,7 @@ ghost use Rattle.std.specs.Prelude.{◌≡◌, ◌↔◌, ◌⊎◌, ◌+◌, �
 ghost use Rattle.std.specs.List.{All, Contains};
 ghost use Rattle.fzn_list.specs.Limits.{longest};
 ghost use Rattle.fzn_domain.specs.Limits.{IsInLimits};
-ghost use Rattle.fzn_meaning.specs.Term.{IsTerm, IsPlace};
+ghost use Rattle.fzn_values.specs.Term.{IsTerm, IsPlace};
 ghost use Rattle.fzn_builtin_rules.specs.Borrowed.{places_in, form_in};
 ghost use Rattle.fzn_builtin_rules.specs.Form.{Fits};
 ghost use Rattle.fzn_cited.specs.declared.fault.DeriveFault.TheVariants.{Memory, NotDerived};
@@ -13,7 +13,8 @@ ghost use Rattle.fzn_derive.specs.Room.{variables_in, cell_of, HoldsNothing, Lis
 
 use fzn_builtin_rules::{Form, Places};
 use fzn_cited::DeriveFault;
-use fzn_meaning::{Place, Term, plus_product};
+use fzn_meaning::plus_product;
+use fzn_values::{Place, Term};
 use std::alloc::{AllocError, Global};
 
 /// What coefficients, and the right side, lie between while constraints are added up: 10^18.

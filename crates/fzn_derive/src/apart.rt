@@ -4,14 +4,15 @@
 ghost use Rattle.std.specs.Prelude.{◌≡◌, ◌≢◌, ◌↔◌, ◌⊎◌, ◌+ℤ◌, pos, Some, IsTrue, IfOk, IfErr, IfSome, IfNone, OnOk, length, map, slice_get};
 ghost use Rattle.std.specs.List.{All, Contains, zip};
 ghost use Rattle.fzn_domain.specs.Narrow.{IsVariable};
-ghost use Rattle.fzn_meaning.specs.declared.term.Term.TheVariants.{Variable};
+ghost use Rattle.fzn_values.specs.declared.term.Term.TheVariants.{Variable};
 ghost use Rattle.fzn_cited.specs.declared.fault.DeriveFault.TheVariants.{Memory};
 ghost use Rattle.fzn_derive.specs.Apart.{StandApart, CancelOut, TellsApart, two_by_two, pairs_cited, IsPairTold, IsPairWrong, IsPairsFault, HasOneForEachTwo, AreToldApart, IsApartFault};
 
 use fzn_cited::{DeriveFault, constraint_at};
 use fzn_domain::VarId;
 use fzn_list::{Items, LONGEST, Shared};
-use fzn_meaning::{Comparison, Constraint, Relation, Sum, Term};
+use fzn_meaning::{Comparison, Constraint, Relation, Sum};
+use fzn_values::Term;
 use std::alloc::{AllocError, Global};
 
 /// That no two of the variables, of a model with this many, have one value: for each two places, in the order 1 2, 1 3, .., 2 3, .., the

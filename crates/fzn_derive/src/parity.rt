@@ -6,8 +6,8 @@ ghost use Rattle.std.specs.Ordering.{int_eq};
 ghost use Rattle.std.specs.List.{All};
 ghost use Rattle.std.specs.List.Sorted.{IsNonDecreasing};
 ghost use Rattle.fzn_domain.specs.IntSet.{contains};
-ghost use Rattle.fzn_meaning.specs.declared.term.Term.TheVariants.{Constant};
-ghost use Rattle.fzn_meaning.specs.Term.{IsTerm};
+ghost use Rattle.fzn_values.specs.declared.term.Term.TheVariants.{Constant};
+ghost use Rattle.fzn_values.specs.Term.{IsTerm};
 ghost use Rattle.fzn_meaning.specs.Meaning.{IsWellFormedConstraint, IsBit, IsBoolean};
 ghost use Rattle.fzn_meaning.specs.Solutions.{declared_sets};
 ghost use Rattle.fzn_derive.specs.Parity.{SaysParity, IsSumAdded, IsConstraintAdded, AreAllAdded, IsSumsFault, AreOddIn, EndsWith, is_one, variable_with, variable_numbers, remainder_of, IsParity, IsParityFault};
@@ -17,7 +17,8 @@ ghost use Rattle.fzn_cited.specs.declared.fault.DeriveFault.TheVariants.{Memory}
 use fzn_cited::{DeriveFault, constraint_at};
 use fzn_domain::{Domain, VarId};
 use fzn_list::{Items, LONGEST, Shared};
-use fzn_meaning::{Constraint, Relation, Term, Var};
+use fzn_meaning::{Constraint, Relation, Var};
+use fzn_values::Term;
 use std::alloc::{AllocError, Global};
 
 /// That an odd number of some Booleans are 1, which the constraints with these numbers say together: each says whether the sum of its

@@ -2,7 +2,7 @@
 ghost use Rattle.std.specs.Prelude.{◌≡◌, ◌↔◌, ◌⊎◌, ◌<◌, ◌++◌, [], ◌∷◌, if◌then◌else◌, map, length, None, IsTrue, IfOk, IfErr, OnOk};
 ghost use Rattle.std.specs.List.{All, filter};
 ghost use Rattle.fzn_domain.specs.Limits.{IsSmall};
-ghost use Rattle.fzn_meaning.specs.Term.{weighted};
+ghost use Rattle.fzn_values.specs.Term.{weighted};
 ghost use Rattle.fzn_meaning.specs.declared.constraint.Constraint.TheVariants.{Linear};
 ghost use Rattle.fzn_meaning.specs.declared.relation.Comparison.TheVariants.{AtMost};
 ghost use Rattle.fzn_cited.specs.declared.fault.DeriveFault.TheVariants.{Memory, NotDerived};
@@ -15,7 +15,8 @@ use crate::order::in_order;
 use fzn_cited::DeriveFault;
 use fzn_domain::VarId;
 use fzn_list::{Items, LONGEST, Shared};
-use fzn_meaning::{Comparison, Constraint, Sum, Term};
+use fzn_meaning::{Comparison, Constraint, Sum};
+use fzn_values::Term;
 use std::alloc::{AllocError, Global};
 
 /// How far from 0 a coefficient and a bound of a constraint lie at the most: 10^9.

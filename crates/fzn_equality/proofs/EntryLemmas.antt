@@ -5,9 +5,9 @@ use Rattle.std.proofs.lemmas.Bool.{cases_eq}
 use Rattle.std.proofs.lemmas.List.{get_or_default}
 use Rattle.std.proofs.lemmas.List.Elements.{All-head, All-push, All-from_recursion, recursion_from_All}
 use Rattle.fzn_domain.specs.IntSet.{IntSet}
-use Rattle.fzn_meaning.specs.declared.term.Term.{Term}
-use Rattle.fzn_meaning.specs.declared.term.Term.TheVariants.{Constant}
-use Rattle.fzn_meaning.specs.Term.{IsTerm}
+use Rattle.fzn_values.specs.declared.term.Term.{Term}
+use Rattle.fzn_values.specs.declared.term.Term.TheVariants.{Constant}
+use Rattle.fzn_values.specs.Term.{IsTerm}
 use Rattle.fzn_sets.specs.Terms.{MayBe, term_at, least_value, greatest_value}
 use Rattle.fzn_sets.proofs.ValueLemmas.{MayBe-ends}
 use Rattle.fzn_builtin_rules.specs.Rows.{ShareNone, NoEntryFits, IsBeyond, IsRowsMet}

@@ -1,7 +1,7 @@
 -- What follows where two terms share no value.
 use Rattle.std.specs.Prelude.{ℕ, List, [], ◌∷◌}
 use Rattle.fzn_domain.specs.IntSet.{IntSet}
-use Rattle.fzn_meaning.specs.declared.term.Term.{Term}
+use Rattle.fzn_values.specs.declared.term.Term.{Term}
 use Rattle.fzn_meaning.specs.declared.constraint.Constraint.{Constraint}
 use Rattle.fzn_builtin_rules.specs.Rows.{ShareNone}
 use Rattle.fzn_rules.specs.declared.rule.Rule.TheVariants.{Rows}

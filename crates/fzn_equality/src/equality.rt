@@ -4,7 +4,7 @@ ghost use Rattle.fzn_domain.specs.IntSet.{IntSet};
 ghost use Rattle.fzn_domain.specs.Narrow.{NoneEmpty};
 ghost use Rattle.fzn_meaning.specs.declared.constraint.Constraint.TheVariants as constraint;
 ghost use Rattle.fzn_meaning.specs.Meaning.{IsSwitch};
-ghost use Rattle.fzn_meaning.specs.Term.{IsTerm};
+ghost use Rattle.fzn_values.specs.Term.{IsTerm};
 ghost use Rattle.fzn_rules.specs.declared.rule.Rule.TheVariants as rule;
 ghost use Rattle.fzn_terms.specs.Denied.{IsDenied};
 ghost use Rattle.fzn_propagator.specs.Clause.{IsJustified};
@@ -15,9 +15,10 @@ use crate::shared::explain_apart;
 use crate::terms::Bound;
 use fzn_domain::{Lit, Memory};
 use fzn_list::Items;
-use fzn_meaning::{Relation, Term};
+use fzn_meaning::Relation;
 use fzn_terms::{Claim, interval_of, is_fixed, may_be};
 use fzn_trail::Trail;
+use fzn_values::Term;
 use std::alloc::Global;
 
 /// A clause that is false or forces a literal: that the switch does not ask for equality, where the two terms have no common value, and

@@ -3,16 +3,16 @@ ghost use Rattle.std.specs.Prelude.{◌≡◌, true, length};
 ghost use Rattle.std.proofs.Props.{props};
 ghost use Rattle.fzn_domain.specs.IntSet.{contains};
 ghost use Rattle.fzn_domain.specs.Limits.{IsInLimits, IsNearLimits};
-ghost use Rattle.fzn_meaning.specs.Term.{IsTerm};
+ghost use Rattle.fzn_values.specs.Term.{IsTerm};
 ghost use Rattle.fzn_terms.specs.Intervals.{IsLimitedInterval, ends_of};
 ghost use Rattle.fzn_terms.specs.Values.{IsTerm-prop};
 
 use crate::terms::Bound;
 use fzn_domain::{Domain, Memory, Op};
 use fzn_list::Items;
-use fzn_meaning::Term;
 use fzn_terms::{Claim, Interval, MOST_VALUES, is_never, is_thinned_beside, may_be, next_value};
 use fzn_trail::Trail;
+use fzn_values::Term;
 use std::alloc::Global;
 
 /// Two terms that are to be equal, as they stand on a trail.

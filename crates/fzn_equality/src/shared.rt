@@ -3,7 +3,7 @@ ghost use Rattle.std.specs.Prelude.{◌≤ℤ◌, ℤ, List, length, IfOk, IfSom
 ghost use Rattle.fzn_domain.specs.IntSet.{IntSet};
 ghost use Rattle.fzn_domain.specs.Limits.{IsInLimits};
 ghost use Rattle.fzn_meaning.specs.declared.constraint.Constraint.{Constraint};
-ghost use Rattle.fzn_meaning.specs.Term.{IsTerm};
+ghost use Rattle.fzn_values.specs.Term.{IsTerm};
 ghost use Rattle.fzn_rules.specs.declared.rule.Rule.TheVariants as rule;
 ghost use Rattle.fzn_sets.specs.Terms.{MayBe};
 ghost use Rattle.fzn_propagator.specs.Clause.{IsJustified};
@@ -15,9 +15,9 @@ use crate::pair::Pair;
 use crate::terms::{Bound, claim_of};
 use fzn_domain::{Domain, Lit, Memory};
 use fzn_list::Items;
-use fzn_meaning::Term;
 use fzn_terms::{Claim, Interval, MOST_VALUES, explanation_of, may_be};
 use fzn_trail::Trail;
+use fzn_values::Term;
 use std::alloc::Global;
 
 /// The clause that the claim is true, or the one term stands so to the number, or the other term does not.

@@ -1,14 +1,14 @@
 // Numbers that terms are compared with, and the values that the terms of a list leave to another.
 ghost use Rattle.std.specs.Prelude.{◌≡◌, ◌<◌, ◌≤◌, length, IfSome};
 ghost use Rattle.std.specs.List.{All};
-ghost use Rattle.fzn_meaning.specs.Term.{IsTerm};
+ghost use Rattle.fzn_values.specs.Term.{IsTerm};
 ghost use Rattle.fzn_terms.specs.Intervals.{IsLimitedInterval, ends_of};
 
 use fzn_domain::{Domain, Lit, Memory, Op, VarId};
 use fzn_list::Items;
-use fzn_meaning::Term;
 use fzn_terms::{Claim, Interval, MOST_VALUES, is_thinned_beside, may_be};
 use fzn_trail::Trail;
+use fzn_values::Term;
 use std::alloc::Global;
 
 /// A number that a term is compared with.

@@ -1,6 +1,7 @@
 // The variables that are told apart two by two.
 use fzn_domain::Memory;
-use fzn_meaning::{Comparison, Constraint, Model, Relation, Sum, Term};
+use fzn_meaning::{Comparison, Constraint, Model, Relation, Sum};
+use fzn_values::Term;
 use std::alloc::Global;
 
 /// A constraint tells two different variables apart.

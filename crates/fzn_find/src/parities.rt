@@ -1,7 +1,8 @@
 // The constraints that say whether a sum of Booleans is odd or even.
 use fzn_domain::Memory;
-use fzn_meaning::{Constraint, Model, Relation, Term};
+use fzn_meaning::{Constraint, Model, Relation};
 use fzn_multipliers::{Bounds, declared_bounds};
+use fzn_values::Term;
 use std::alloc::Global;
 
 /// Equalities of Booleans that say nothing of others are left out so many times, each of which may bare others.

@@ -11,9 +11,9 @@ use Rattle.fzn_domain.specs.Literal.{is_true_at, negated}
 use Rattle.fzn_domain.specs.IntSet.{IntSet, is_possible, least, greatest}
 use Rattle.fzn_domain.specs.Narrow.{IsVariable, set_of}
 use Rattle.fzn_domain.proofs.SetLemmas.{least_le, le_greatest, possible_when, impossible_when, is_true_at-negated}
-use Rattle.fzn_meaning.specs.declared.term.Term.{Term}
-use Rattle.fzn_meaning.specs.declared.term.Term.TheVariants.{Variable}
-use Rattle.fzn_meaning.specs.Term.{IsTerm}
+use Rattle.fzn_values.specs.declared.term.Term.{Term}
+use Rattle.fzn_values.specs.declared.term.Term.TheVariants.{Variable}
+use Rattle.fzn_values.specs.Term.{IsTerm}
 use Rattle.fzn_sets.specs.Terms.{least_value}
 use Rattle.fzn_trail.specs.Levels.{Levels}
 use Rattle.fzn_propagator.specs.Clause.{IsWritable}

@@ -5,10 +5,10 @@ use Rattle.std.proofs.lemmas.Option.{none-some}
 use Rattle.fzn_domain.specs.declared.literal.Lit.{Lit}
 use Rattle.fzn_domain.specs.IntSet.{IntSet, contains}
 use Rattle.fzn_domain.specs.Narrow.{IsWithin, set_of, value_of}
-use Rattle.fzn_meaning.specs.declared.term.Term.{Term}
+use Rattle.fzn_values.specs.declared.term.Term.{Term}
 use Rattle.fzn_meaning.specs.declared.constraint.Constraint.{Constraint}
 use Rattle.fzn_meaning.specs.declared.constraint.Constraint.TheVariants as constraint
-use Rattle.fzn_meaning.specs.Term.{IsTerm, term_value, values_of}
+use Rattle.fzn_values.specs.Term.{IsTerm, term_value, values_of}
 use Rattle.fzn_meaning.specs.Meaning.{Meets, IsWellFormedConstraint, IsSwitch, switch_value}
 use Rattle.fzn_sets.specs.Terms.{least_value}
 use Rattle.fzn_sets.proofs.CallerLemmas.{MayBe-term_value}

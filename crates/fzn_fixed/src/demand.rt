@@ -2,14 +2,14 @@
 ghost use Rattle.std.specs.Prelude.{List, Some, length};
 ghost use Rattle.fzn_domain.specs.IntSet.{IntSet};
 ghost use Rattle.fzn_domain.specs.Narrow.{IsVariable};
-ghost use Rattle.fzn_meaning.specs.declared.term.Term.TheVariants.{Constant, Variable};
+ghost use Rattle.fzn_values.specs.declared.term.Term.TheVariants.{Constant, Variable};
 ghost use Rattle.fzn_fixed.specs.Demand.{IsDemand};
 
 use crate::image::Image;
 use crate::pass::Pass;
 use fzn_domain::{Lit, Op, VarId};
-use fzn_meaning::Term;
 use fzn_trail::Trail;
+use fzn_values::Term;
 
 /// What has to be so for the constraint to hold.
 #[derive(Clone, Copy, Debug, PartialEq, Eq)]

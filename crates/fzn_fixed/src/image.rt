@@ -14,7 +14,8 @@ ghost use Rattle.fzn_builtin_rules.specs.Form.{form_of};
 ghost use Rattle.fzn_fixed.specs.Image.{Admits, IsImage};
 
 use fzn_domain::Domain;
-use fzn_meaning::{Constraint, Extreme, Operation, Term};
+use fzn_meaning::{Constraint, Extreme, Operation};
+use fzn_values::Term;
 
 /// The values of the result that make a constraint hold.
 #[derive(Clone, Copy, Debug, PartialEq, Eq)]

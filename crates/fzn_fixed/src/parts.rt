@@ -9,7 +9,8 @@ ghost use Rattle.fzn_fixed.specs.Parts.{ArePartsOf};
 
 use fzn_domain::{Domain, Memory};
 use fzn_list::{Items, Shared};
-use fzn_meaning::{Constraint, Extreme, Operation, Term};
+use fzn_meaning::{Constraint, Extreme, Operation};
+use fzn_values::Term;
 use std::alloc::Global;
 
 /// A constraint that is no sum, with its input places and the place of its result.

@@ -4,15 +4,16 @@ ghost use Rattle.std.specs.List.{All};
 ghost use Rattle.std.proofs.Props.{props};
 ghost use Rattle.fzn_domain.specs.Narrow.{NoneEmpty};
 ghost use Rattle.fzn_meaning.specs.Meaning.{IsSwitch};
-ghost use Rattle.fzn_meaning.specs.Term.{IsTerm};
+ghost use Rattle.fzn_values.specs.Term.{IsTerm};
 ghost use Rattle.fzn_builtin_rules.specs.Choices.{inputs_of, result_of};
 ghost use Rattle.fzn_builtin_rules.specs.Form.{form_of};
 ghost use Rattle.fzn_terms.specs.Values.{IsTerm-prop, AreTerms-prop};
 ghost use Rattle.fzn_fixed.specs.Parts.{ArePartsReady};
 
 use crate::parts::Parts;
-use fzn_meaning::{Constraint, Term};
+use fzn_meaning::Constraint;
 use fzn_trail::Trail;
+use fzn_values::Term;
 use std::alloc::Global;
 
 /// One pass over the parts of a constraint that is no sum, on a trail on which each present set has a value.

@@ -2,7 +2,7 @@
 ghost use Rattle.std.specs.Prelude.{◌≡◌, IfOk, IfSome, IfNone, [], length, ℤ};
 ghost use Rattle.std.specs.List.{All};
 ghost use Rattle.fzn_domain.specs.Limits.{IsInLimits};
-ghost use Rattle.fzn_meaning.specs.Term.{IsTerm};
+ghost use Rattle.fzn_values.specs.Term.{IsTerm};
 ghost use Rattle.fzn_sets.specs.Terms.{least_value};
 ghost use Rattle.fzn_propagator.specs.Left.{IsLeft};
 ghost use Rattle.fzn_terms.specs.Values.{IsFixed};
@@ -12,8 +12,8 @@ ghost use Rattle.fzn_fixed.specs.Passes.{AreFixed, least_values};
 use crate::pass::Pass;
 use fzn_domain::{Lit, Memory, Op};
 use fzn_list::Items;
-use fzn_meaning::Term;
 use fzn_terms::least_of;
+use fzn_values::Term;
 use smallvec::SmallVec;
 
 /// Values of terms. Most constraints have few inputs, whose values take no memory of their own.

@@ -12,13 +12,13 @@ use Rattle.std.proofs.lemmas.Map.Keys.{IsDistinct-IsPermutation}
 use Rattle.std.proofs.lemmas.Map.Made.{AllPairs-from_IsDistinct, IsDistinct-from_AllPairs}
 use Rattle.fzn_domain.specs.IntSet.{IntSet}
 use Rattle.fzn_domain.specs.Narrow.{IsWithin, AllFixed}
-use Rattle.fzn_meaning.specs.declared.term.Term.{Term}
-use Rattle.fzn_meaning.specs.declared.term.Term.TheVariants.{Constant}
+use Rattle.fzn_values.specs.declared.term.Term.{Term}
+use Rattle.fzn_values.specs.declared.term.Term.TheVariants.{Constant}
 use Rattle.fzn_meaning.specs.declared.constraint.Constraint.TheVariants.{AllDifferent}
-use Rattle.fzn_meaning.specs.AllDifferent.{IsAllDifferent}
+use Rattle.fzn_values.specs.AllDifferent.{IsAllDifferent}
 use Rattle.fzn_meaning.specs.Meaning.{Meets}
-use Rattle.fzn_meaning.specs.Term.{IsTerm, values_of}
-use Rattle.fzn_meaning.proofs.CallerLemmas.{length-values_of, get_or-values_of}
+use Rattle.fzn_values.specs.Term.{IsTerm, values_of}
+use Rattle.fzn_values.proofs.CallerLemmas.{length-values_of, get_or-values_of}
 use Rattle.fzn_sets.specs.Terms.{MayBe}
 use Rattle.fzn_trail.specs.Levels.{Levels}
 use Rattle.fzn_propagator.specs.Inference.{HoldsWhereFixed}

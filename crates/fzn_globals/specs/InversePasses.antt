@@ -1,9 +1,9 @@
 -- What a pass over one of two inverse lists finds.
 use Rattle.std.specs.Prelude.{ℤ, List, length}
 use Rattle.fzn_domain.specs.declared.literal.Lit.{Lit}
-use Rattle.fzn_meaning.specs.declared.term.Term.{Term}
+use Rattle.fzn_values.specs.declared.term.Term.{Term}
 use Rattle.fzn_meaning.specs.declared.constraint.Constraint.{Constraint}
-use Rattle.fzn_meaning.specs.Entries.{IsIndex}
+use Rattle.fzn_values.specs.Entries.{IsIndex}
 use Rattle.fzn_rules.specs.declared.rule.Rule.{Rule}
 use Rattle.fzn_sets.specs.Terms.{MayBe, term_at}
 use Rattle.fzn_propagator.specs.Clause.{IsJustified}

@@ -5,7 +5,7 @@ ghost use Rattle.fzn_items.specs.Pieces.{bytes_text, span_text, position_text, m
 
 use fzn_domain::VarId;
 use fzn_lexer::{Position, Span};
-use fzn_meaning::Term;
+use fzn_values::Term;
 use itoa::Buffer;
 use std::alloc::AllocError;
 

@@ -7,14 +7,14 @@ use Rattle.std.proofs.lemmas.Bool.Decides.{Decides-int_eq}
 use Rattle.std.proofs.lemmas.List.{get_or-drop, length-drop}
 use Rattle.fzn_domain.specs.IntSet.{IntSet, contains}
 use Rattle.fzn_domain.specs.Narrow.{IsWithin, AllFixed, set_of, is_some_empty}
-use Rattle.fzn_meaning.specs.declared.term.Term.{Term}
-use Rattle.fzn_meaning.specs.declared.term.Term.TheVariants.{Constant, Variable}
+use Rattle.fzn_values.specs.declared.term.Term.{Term}
+use Rattle.fzn_values.specs.declared.term.Term.TheVariants.{Constant, Variable}
 use Rattle.fzn_meaning.specs.declared.row.TablePart.{TablePart}
 use Rattle.fzn_meaning.specs.declared.row.Part.{Part}
 use Rattle.fzn_meaning.specs.declared.row.Part.TheVariants as parts
-use Rattle.fzn_meaning.specs.Term.{term_value, values_of}
+use Rattle.fzn_values.specs.Term.{term_value, values_of}
 use Rattle.fzn_meaning.specs.Separable.{begins_with, row_weight, IsPart, IsTablePart}
-use Rattle.fzn_meaning.proofs.CallerLemmas.{length-values_of, get_or-values_of}
+use Rattle.fzn_values.proofs.CallerLemmas.{length-values_of, get_or-values_of}
 use Rattle.fzn_meaning.proofs.TableWeightLemmas.{row_weight-at, row_weight-on}
 use Rattle.fzn_rules.specs.GlobalRows.{MayBeRow}
 use Rattle.fzn_rules.specs.Separable.{IsLeastOf, IsWeightIn}

@@ -3,7 +3,7 @@ ghost use Rattle.std.specs.Prelude.{◌≡◌, ◌<◌, ℤ, pos, ◌≤ℤ◌, 
 ghost use Rattle.std.specs.Int.{int_min, int_max};
 ghost use Rattle.fzn_domain.specs.declared.domain.TheConstants as limits;
 ghost use Rattle.fzn_domain.specs.Limits.{IsInLimits};
-ghost use Rattle.fzn_meaning.specs.declared.term.Term.TheVariants.{Variable};
+ghost use Rattle.fzn_values.specs.declared.term.Term.TheVariants.{Variable};
 ghost use Rattle.fzn_meaning.specs.declared.row.Part.TheVariants as parts;
 ghost use Rattle.fzn_meaning.specs.Separable.{weight_at, IsCoefficient, IsVariablePart, IsPart};
 ghost use Rattle.fzn_sets.specs.Terms.{least_value, greatest_value};
@@ -17,8 +17,9 @@ use crate::pass::Pass;
 use crate::weights::{entry_weight, is_light, value_at};
 use fzn_domain::{GREATEST_VALUE, LEAST_VALUE, Lit, Memory};
 use fzn_list::Items;
-use fzn_meaning::{Listed, Part, Term, VariablePart, weight_at};
+use fzn_meaning::{Listed, Part, VariablePart, weight_at};
 use fzn_terms::{Claim, Interval, explain, greatest_of, least_of};
+use fzn_values::Term;
 
 /// Adds to a false clause what it takes to say that each part weighs no less than its level, but for the part at an index. None does on the
 /// trail. There is one level for each part, in their order, and an index past all is of none. `Err` where memory runs out.

@@ -3,7 +3,7 @@ ghost use Rattle.std.specs.Prelude.{◌<◌, length, IfSome, IfNone, OnOk};
 ghost use Rattle.fzn_domain.specs.Limits.{IsInLimits};
 ghost use Rattle.fzn_meaning.specs.declared.row.Part.TheVariants.{Table};
 ghost use Rattle.fzn_meaning.specs.Separable.{IsTablePart};
-ghost use Rattle.fzn_meaning.specs.Term.{IsTerm};
+ghost use Rattle.fzn_values.specs.Term.{IsTerm};
 ghost use Rattle.fzn_rules.specs.GlobalRows.{MayBeRow};
 ghost use Rattle.fzn_sets.specs.Terms.{MayBe};
 ghost use Rattle.fzn_propagator.specs.Clause.{IsFalseClause};
@@ -16,8 +16,9 @@ use crate::told::Told;
 use crate::weights::is_light;
 use fzn_domain::{Lit, Memory};
 use fzn_list::Items;
-use fzn_meaning::{TablePart, Term};
+use fzn_meaning::TablePart;
 use fzn_terms::{Claim, explain, may_be};
+use fzn_values::Term;
 
 /// Adds to a false clause what it takes to say that no row of the table weighs less than the level and equals the places, and where there is
 /// no level that each that equals them is barred. So it is on the trail.

@@ -1,12 +1,12 @@
 // Which values of the places of a table a clause bars already.
 ghost use Rattle.std.specs.Prelude.{◌≤◌, length, vec_len, IsTrue};
-ghost use Rattle.fzn_meaning.specs.Term.{IsTerm};
+ghost use Rattle.fzn_values.specs.Term.{IsTerm};
 ghost use Rattle.fzn_levels.specs.Levels.{IsToldOut};
 
 use fzn_domain::{Lit, Memory, Op, VarId};
 use fzn_list::Items;
-use fzn_meaning::Term;
 use fzn_trail::Trail;
+use fzn_values::Term;
 use std::alloc::Global;
 
 /// Where the literals of a clause are that grows. No contract rests on it: each literal that is found so is looked at again.

@@ -2,11 +2,11 @@
 use Rattle.std.proofs.Common.{◌≡◌, ℕ, ◌≤◌, List, length, subst, sym, ap, ◌∙◌, arith, ℤ, unsigned_abs, All, Option, IfSome}
 use Rattle.std.proofs.lemmas.Int.{ints}
 use Rattle.fzn_domain.specs.Limits.{IsSmall}
-use Rattle.fzn_meaning.specs.declared.term.Place.{Place}
+use Rattle.fzn_values.specs.declared.term.Place.{Place}
 use Rattle.fzn_meaning.specs.declared.relation.Comparison.{Comparison}
 use Rattle.fzn_meaning.specs.declared.relation.Comparison.TheVariants.{AtMost, Equal, NotEqual}
 use Rattle.fzn_meaning.specs.declared.constraint.Constraint.{Constraint}
-use Rattle.fzn_meaning.specs.Term.{IsPlace}
+use Rattle.fzn_values.specs.Term.{IsPlace}
 use Rattle.fzn_meaning.specs.Meaning.{IsWellFormedConstraint}
 use Rattle.fzn_builtin_rules.specs.Form.{Form, Fits}
 use Rattle.fzn_builtin_rules.proofs.CallerLemmas.{form_fits}

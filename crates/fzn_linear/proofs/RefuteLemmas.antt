@@ -10,13 +10,13 @@ use Rattle.fzn_domain.specs.IntSet.{IntSet, contains, is_possible, least, greate
 use Rattle.fzn_domain.specs.Limits.{IsNearLimits}
 use Rattle.fzn_domain.specs.Narrow.{IsVariable, IsClauseOver, set_of, denied, is_some_empty, possible_in}
 use Rattle.fzn_domain.proofs.SetLemmas.{least_le, le_greatest}
-use Rattle.fzn_meaning.specs.declared.term.Term.{Term}
-use Rattle.fzn_meaning.specs.declared.term.Term.TheVariants.{Constant, Variable}
-use Rattle.fzn_meaning.specs.declared.term.Place.{Place}
+use Rattle.fzn_values.specs.declared.term.Term.{Term}
+use Rattle.fzn_values.specs.declared.term.Term.TheVariants.{Constant, Variable}
+use Rattle.fzn_values.specs.declared.term.Place.{Place}
 use Rattle.fzn_meaning.specs.declared.relation.Comparison.{Comparison}
 use Rattle.fzn_meaning.specs.declared.relation.Comparison.TheVariants.{AtMost, Equal, NotEqual}
 use Rattle.fzn_meaning.specs.Meaning.{IsSwitch}
-use Rattle.fzn_meaning.specs.Term.{IsTerm, IsPlace}
+use Rattle.fzn_values.specs.Term.{IsTerm, IsPlace}
 use Rattle.fzn_sets.specs.Terms.{IsFixedTo, MayBe}
 use Rattle.fzn_builtin_rules.specs.Linear.{low_end, low_product, high_product, least_sum, greatest_sum, NoneCompares, AllCompare}
 use Rattle.fzn_builtin_rules.specs.Form.{Form, form, IsFormMet}

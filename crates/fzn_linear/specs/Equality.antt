@@ -4,7 +4,7 @@ use Rattle.fzn_domain.specs.IntSet.{IntSet}
 use Rattle.fzn_meaning.specs.declared.constraint.Constraint.{Constraint}
 use Rattle.fzn_meaning.specs.declared.constraint.Constraint.TheVariants.{Compare}
 use Rattle.fzn_meaning.specs.Meaning.{IsSwitch}
-use Rattle.fzn_meaning.specs.Term.{IsTerm}
+use Rattle.fzn_values.specs.Term.{IsTerm}
 use Rattle.fzn_linear.specs.declared.equality.EqualityPropagator.{EqualityPropagator}
 use Rattle.fzn_linear.specs.Kinds.{IsFormOf, IsSumReady}
 

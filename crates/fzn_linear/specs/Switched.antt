@@ -4,8 +4,8 @@ use Rattle.std.proofs.Props.{props}
 use Rattle.fzn_domain.specs.declared.literal.Lit.{Lit}
 use Rattle.fzn_domain.specs.declared.literal.Op.TheVariants as op
 use Rattle.fzn_domain.specs.IntSet.{IntSet}
-use Rattle.fzn_meaning.specs.declared.term.Term.{Term}
-use Rattle.fzn_meaning.specs.declared.term.Term.TheVariants.{Constant, Variable}
+use Rattle.fzn_values.specs.declared.term.Term.{Term}
+use Rattle.fzn_values.specs.declared.term.Term.TheVariants.{Constant, Variable}
 use Rattle.fzn_sets.specs.Terms.{IsFixedTo, MayBe}
 use Rattle.fzn_builtin_rules.specs.Form.{Form}
 use Rattle.fzn_terms.specs.Values.{IsFixed}

@@ -1,7 +1,7 @@
 -- Which changes the propagator of a sum waits for.
 use Rattle.std.specs.Prelude.{ℤ, pos, List, ◌++◌, Option, Some, None, flat_map, int_lt, if◌then◌else◌}
-use Rattle.fzn_meaning.specs.declared.term.Term.{Term}
-use Rattle.fzn_meaning.specs.declared.term.Place.{Place}
+use Rattle.fzn_values.specs.declared.term.Term.{Term}
+use Rattle.fzn_values.specs.declared.term.Place.{Place}
 use Rattle.fzn_meaning.specs.declared.relation.Comparison.{Comparison}
 use Rattle.fzn_meaning.specs.declared.relation.Comparison.TheVariants.{AtMost, Equal, NotEqual}
 use Rattle.fzn_meaning.specs.declared.constraint.Constraint.{Constraint}

@@ -4,7 +4,7 @@ ghost use Rattle.fzn_domain.specs.IntSet.{IntSet};
 ghost use Rattle.fzn_meaning.specs.declared.constraint.Constraint.{Constraint};
 ghost use Rattle.fzn_meaning.specs.declared.constraint.Constraint.TheVariants.{Compare};
 ghost use Rattle.fzn_meaning.specs.Meaning.{IsSwitch};
-ghost use Rattle.fzn_meaning.specs.Term.{IsTerm};
+ghost use Rattle.fzn_values.specs.Term.{IsTerm};
 ghost use Rattle.fzn_propagator.specs.declared.cost.Cost.TheVariants as cost;
 ghost use Rattle.fzn_propagator.specs.Subscriptions.{terms_of, AreHeard};
 ghost use Rattle.fzn_linear.specs.Equality.{equality_number, EqualityIsFor, EqualityFits};
@@ -14,10 +14,11 @@ use crate::sum::SumPropagator;
 use crate::wake::subscriptions_of;
 use fzn_domain::Memory;
 use fzn_equality::infer_equal;
-use fzn_meaning::{Relation, Term};
+use fzn_meaning::Relation;
 use fzn_propagator::{Cost, Findings, Inference, Propagator, Subscriptions};
 use fzn_rules::Rule;
 use fzn_trail::Trail;
+use fzn_values::Term;
 use std::alloc::Global;
 
 /// The difference of two terms compares so with its bound, and where the terms have to be equal each has only values of the other.

@@ -8,7 +8,8 @@ ghost use Rattle.fzn_linear.specs.Kinds.{IsFormOf};
 use fzn_builtin_rules::{Places, form_of as borrowed_form_of};
 use fzn_domain::Memory;
 use fzn_list::Items;
-use fzn_meaning::{Comparison, Constraint, Place, Term};
+use fzn_meaning::{Comparison, Constraint};
+use fzn_values::{Place, Term};
 use std::alloc::Global;
 
 /// The sum over the places compares so with the bound; with a switch, exactly where this term is 1.

@@ -9,7 +9,8 @@ ghost use Rattle.fzn_linear.specs.OppositeForm.{other_comparison, other_bound, o
 use crate::form::SumForm;
 use fzn_domain::Memory;
 use fzn_list::Items;
-use fzn_meaning::{Comparison, Place};
+use fzn_meaning::Comparison;
+use fzn_values::Place;
 use std::alloc::Global;
 
 /// With the same switch.

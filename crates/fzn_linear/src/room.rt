@@ -1,8 +1,9 @@
 // Whether a sum has so much room that nothing follows from it, by its ends as they are counted. It only chooses: nothing is promised of it.
 use crate::form::SumForm;
 use fzn_list::Items;
-use fzn_meaning::{Comparison, Place, Term, Var};
+use fzn_meaning::{Comparison, Var};
 use fzn_propagator::{Bounds, Shift, Tally};
+use fzn_values::{Place, Term};
 
 /// A sum without a switch is counted where so many places may give their most, each as wide as any but the widest. Where an equation has
 /// less room, or says what one of its places is, it is asked at nearly every change anyway.

@@ -10,10 +10,11 @@ use crate::pass::Pass;
 use fzn_builtin_rules::Ends;
 use fzn_domain::{Lit, Memory, Op};
 use fzn_list::Items;
-use fzn_meaning::{Comparison, Term};
+use fzn_meaning::Comparison;
 use fzn_propagator::Findings;
 use fzn_rules::Rule;
 use fzn_sum::{Inequality, conflict_not_equal, ends_of, floors_of, refute_not_equal, refute_place};
+use fzn_values::Term;
 
 /// What has to hold in a pass where the switch has one value, which it may have.
 #[derive(Clone, Copy)]

@@ -4,7 +4,7 @@ ghost use Rattle.fzn_linear.specs.Counted.{weights_in};
 
 use crate::form::SumForm;
 use fzn_domain::Memory;
-use fzn_meaning::Term;
+use fzn_values::Term;
 use std::alloc::Global;
 
 /// By what the sum multiplies its variables, each from -10^9 to 10^9, in the order in which its propagator waits for them. It waits for

@@ -11,13 +11,13 @@ use Rattle.fzn_domain.specs.declared.literal.Lit.{Lit}
 use Rattle.fzn_domain.specs.IntSet.{IntSet}
 use Rattle.fzn_domain.specs.Limits.{IsInLimits, IsNearLimits}
 use Rattle.fzn_domain.specs.Narrow.{IsVariable, IsClauseOver, IsWithin, value_of, is_clause_true}
-use Rattle.fzn_meaning.specs.declared.term.Term.{Term}
-use Rattle.fzn_meaning.specs.declared.term.Term.TheVariants.{Constant, Variable}
+use Rattle.fzn_values.specs.declared.term.Term.{Term}
+use Rattle.fzn_values.specs.declared.term.Term.TheVariants.{Constant, Variable}
 use Rattle.fzn_meaning.specs.declared.constraint.Constraint.{Constraint}
 use Rattle.fzn_meaning.specs.declared.model.Goal.{Goal}
 use Rattle.fzn_meaning.specs.declared.model.Goal.TheVariants.{Satisfy, Minimize, Maximize}
 use Rattle.fzn_meaning.specs.declared.model.Model.{Model}
-use Rattle.fzn_meaning.specs.Term.{term_value}
+use Rattle.fzn_values.specs.Term.{term_value}
 use Rattle.fzn_meaning.specs.Meaning.{IsBit, IsBoolean, HasBooleanSets, HasBooleanValues, booleans_of}
 use Rattle.fzn_meaning.specs.Solutions.{IsSolution, Agree, IsInOrder, IsProper, IsCovered, IsExhausted, cut_for, cut_of, PassesCuts}
 use Rattle.fzn_meaning.specs.WellFormed.{IsGoal, IsWellFormed}

@@ -4,7 +4,7 @@ use Rattle.std.specs.Ordering.{int_eq}
 use Rattle.std.proofs.lemmas.Bool.{and_from, and_parts}
 use Rattle.std.proofs.lemmas.Bool.Decides.{Decides-int_eq}
 use Rattle.std.proofs.lemmas.List.{drop_more, drop-drop}
-use Rattle.fzn_meaning.specs.Table.{row_at}
+use Rattle.fzn_values.specs.Table.{row_at}
 use Rattle.fzn_meaning.specs.Separable.{begins_with, row_weight}
 
 -- numbers that begin with the values have them in front

@@ -4,10 +4,10 @@ use Rattle.std.specs.List.{zip}
 use Rattle.std.specs.Prelude.{min}
 use Rattle.std.proofs.lemmas.List.{length-map, get_or-map}
 use Rattle.std.proofs.lemmas.Slice.Zip.{length-zip, get_or-zip}
-use Rattle.fzn_meaning.specs.declared.term.Term.{Term}
-use Rattle.fzn_meaning.specs.declared.term.Term.TheVariants.{Constant}
-use Rattle.fzn_meaning.specs.declared.term.Place.{Place}
-use Rattle.fzn_meaning.specs.Term.{number_in, weighted}
+use Rattle.fzn_values.specs.declared.term.Term.{Term}
+use Rattle.fzn_values.specs.declared.term.Term.TheVariants.{Constant}
+use Rattle.fzn_values.specs.declared.term.Place.{Place}
+use Rattle.fzn_values.specs.Term.{number_in, weighted}
 
 abbrev product : Term × Term → Place
 product pair = record { coefficient = number_in pair.0; term = pair.1 }

@@ -6,13 +6,13 @@ pub use Rattle.fzn_list.specs.Limits.{longest}
 use Rattle.fzn_domain.specs.IntSet.{IntSet, contains}
 use Rattle.fzn_domain.specs.Limits.{IsInLimits, IsSmall, IsLimited}
 use Rattle.fzn_domain.specs.Narrow.{set_of}
-use Rattle.fzn_meaning.specs.declared.term.Term.{Term}
-use Rattle.fzn_meaning.specs.declared.term.Term.TheVariants.{Constant, Variable}
-use Rattle.fzn_meaning.specs.declared.term.Place.{Place}
+use Rattle.fzn_values.specs.declared.term.Term.{Term}
+use Rattle.fzn_values.specs.declared.term.Term.TheVariants.{Constant, Variable}
+use Rattle.fzn_values.specs.declared.term.Place.{Place}
 use Rattle.fzn_meaning.specs.declared.relation.Comparison.TheVariants.{Equal}
 use Rattle.fzn_meaning.specs.declared.constraint.Constraint.{Constraint}
 use Rattle.fzn_meaning.specs.declared.constraint.Constraint.TheVariants.{Compare, BoolNot, BoolToInt, Linear, BoolLinEq, Arithmetic, IntAbs, Extremum, Element, SetIn, Gated, BoolXor, ArrayBoolXor, BoolClause, AllDifferent, Table, Cumulative, Circuit, Inverse, Row}
-use Rattle.fzn_meaning.specs.Term.{term_value, values_of, sum_at, IsTerm, IsPlace}
+use Rattle.fzn_values.specs.Term.{term_value, values_of, sum_at, IsTerm, IsPlace}
 use Rattle.fzn_meaning.specs.Comparisons.{IsRelated, IsSwitched}
 use Rattle.fzn_meaning.specs.Linear.{IsLinear}
 use Rattle.fzn_meaning.specs.Arithmetic.{IsArithmetic, IsIntAbs}
@@ -20,11 +20,11 @@ use Rattle.fzn_meaning.specs.Extrema.{IsExtremum}
 use Rattle.fzn_meaning.specs.Elements.{IsElement}
 use Rattle.fzn_meaning.specs.Sets.{IsInSet}
 use Rattle.fzn_meaning.specs.Booleans.{IsBoolNot, IsBoolToInt, IsGated, IsBoolXor, IsArrayBoolXor, IsBoolClause}
-use Rattle.fzn_meaning.specs.AllDifferent.{IsAllDifferent}
-use Rattle.fzn_meaning.specs.Table.{IsTable}
-use Rattle.fzn_meaning.specs.Cumulative.{IsCumulative}
-use Rattle.fzn_meaning.specs.Circuit.{IsCircuit}
-use Rattle.fzn_meaning.specs.Inverse.{IsInverse}
+use Rattle.fzn_values.specs.AllDifferent.{IsAllDifferent}
+use Rattle.fzn_values.specs.Table.{IsTable}
+use Rattle.fzn_values.specs.Cumulative.{IsCumulative}
+use Rattle.fzn_values.specs.Circuit.{IsCircuit}
+use Rattle.fzn_values.specs.Inverse.{IsInverse}
 use Rattle.fzn_meaning.specs.Separable.{RowHolds, IsSeparableRow}
 
 -- the value of a switch, where there is one

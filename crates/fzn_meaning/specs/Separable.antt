@@ -12,7 +12,7 @@ use Rattle.fzn_meaning.specs.declared.row.TablePart.{TablePart}
 use Rattle.fzn_meaning.specs.declared.row.Part.{Part}
 use Rattle.fzn_meaning.specs.declared.row.Part.TheVariants.{Variable, Table}
 use Rattle.fzn_meaning.specs.declared.row.Row.{Row}
-use Rattle.fzn_meaning.specs.Term.{values_of, IsTerm}
+use Rattle.fzn_values.specs.Term.{values_of, IsTerm}
 
 -- what is listed at a distance from the first number; none where nothing is, so that the value is barred
 abbrev pub entry_in : List (Option ℤ) → ℤ → Option ℤ

@@ -9,7 +9,7 @@ use Rattle.fzn_meaning.specs.declared.model.Goal.TheVariants.{Satisfy, Minimize,
 use Rattle.fzn_meaning.specs.declared.model.OutputItem.{OutputItem}
 use Rattle.fzn_meaning.specs.declared.model.OutputItem.TheVariants.{Single, Array}
 use Rattle.fzn_meaning.specs.declared.model.Model.{Model}
-use Rattle.fzn_meaning.specs.Term.{IsTerm}
+use Rattle.fzn_values.specs.Term.{IsTerm}
 use Rattle.fzn_meaning.specs.Meaning.{HasBooleanSets, longest, IsWellFormedConstraint}
 use Rattle.fzn_meaning.specs.Solutions.{declared_sets}
 

@@ -4,7 +4,7 @@ ghost use Rattle.std.specs.List.{All, count_by};
 ghost use Rattle.std.specs.Ordering.{int_eq};
 ghost use Rattle.fzn_meaning.specs.Booleans.{Passes, IsGated, IsBoolXor, IsArrayBoolXor, IsBoolClause};
 
-use crate::entries::Entries;
+use fzn_values::Entries;
 
 /// When a gate gives 1.
 #[derive(Clone, Copy, Debug, PartialEq, Eq)]

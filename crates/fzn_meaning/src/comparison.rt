@@ -1,11 +1,11 @@
 // Comparisons of two terms, and switches.
 ghost use Rattle.std.specs.Prelude.{◌≡◌, ◌↔◌, IsTrue, IfSome, length};
-ghost use Rattle.fzn_meaning.specs.Term.{IsTerm};
+ghost use Rattle.fzn_values.specs.Term.{IsTerm};
 ghost use Rattle.fzn_meaning.specs.Meaning.{switch_value, IsSwitch};
 ghost use Rattle.fzn_meaning.specs.Comparisons.{IsRelated, IsSwitched};
 
 use crate::relation::Relation;
-use crate::term::Term;
+use fzn_values::Term;
 
 fn is_related(relation: Relation, left: i64, right: i64) -> bool
     ensures { IsTrue result ↔ IsRelated relation left right }

@@ -6,10 +6,9 @@ use crate::extremum::Extreme;
 use crate::relation::{Comparison, Relation};
 use crate::row::Row;
 use crate::sum::Sum;
-use crate::table::Rows;
-use crate::term::Term;
 use fzn_domain::Domain;
 use fzn_list::Shared;
+use fzn_values::{Rows, Term};
 
 /// A numbered constraint (MiniZinc Handbook, FlatZinc builtins; Global Constraint Catalog). Each constant in it lies within the limits of a
 /// value, each coefficient and bound from -10^9 to 10^9, and a list has at most 100,000 entries. A switch is a Boolean term that is 1

@@ -3,7 +3,7 @@ ghost use Rattle.std.specs.Prelude.{◌≡◌, ◌↔◌, IsTrue};
 ghost use Rattle.std.specs.List.{All};
 ghost use Rattle.fzn_meaning.specs.Extrema.{Bounds, IsExtremum};
 
-use crate::entries::Entries;
+use fzn_values::Entries;
 
 /// Which entry of a list is meant.
 #[derive(Clone, Copy, Debug, PartialEq, Eq)]

@@ -2,7 +2,8 @@
 //!
 //! In: a model and lists of values, one for each variable. Out: whether the values meet a constraint, are a solution, are better than
 //! others, and the clause that a solution adds. Proved against `specs/Meaning.antt` (the meaning of each constraint, on the values of
-//! its terms by the files of `specs/` that it names) and `specs/Solutions.antt` (assignment, solution, better, proper, exhausted, cut).
+//! its terms by the files that it names, here and in `fzn_values`) and `specs/Solutions.antt` (assignment, solution, better, proper,
+//! exhausted, cut).
 #![tactic(auto)]
 
 pub use arithmetic::Operation;
@@ -15,22 +16,14 @@ pub use relation::{Comparison, Relation};
 pub use row::{Listed, Part, Row, TablePart, VariablePart, listed_at, product, weighed, weight_at};
 pub use solution_cut::cut;
 pub use sum::{Sum, plus_product};
-pub use table::Rows;
-pub use term::{Place, Term};
 
-mod all_different;
 mod arithmetic;
 mod boolean;
-mod circuit;
 mod comparison;
 mod constraint;
-mod cumulative;
 mod element;
-mod entries;
 mod extremum;
-mod inverse;
 mod linear;
-mod load_profile;
 mod meaning;
 mod model;
 mod relation;
@@ -38,5 +31,3 @@ mod row;
 mod set;
 mod solution_cut;
 mod sum;
-mod table;
-mod term;

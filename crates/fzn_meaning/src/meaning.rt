@@ -5,23 +5,18 @@ ghost use Rattle.std.specs.Prelude.{◌≡◌, ◌↔◌, IsTrue, length};
 ghost use Rattle.fzn_meaning.specs.Meaning.{Meets, IsWellFormedConstraint};
 ghost use Rattle.fzn_meaning.specs.Families.{family_of, compared, computed, boolean, global};
 
-use crate::all_different::is_all_different;
 use crate::arithmetic::{is_arithmetic, is_int_abs};
 use crate::boolean::{is_array_bool_xor, is_bool_clause, is_bool_xor, is_gated};
-use crate::circuit::is_circuit;
 use crate::comparison::{is_comparison, switch_value};
 use crate::constraint::Constraint;
-use crate::cumulative::is_cumulative;
 use crate::element::is_element;
-use crate::entries::Entries;
 use crate::extremum::is_extremum;
-use crate::inverse::is_inverse;
 use crate::linear::{is_linear, is_switched_linear};
 use crate::relation::Comparison;
 use crate::row::meets_row;
 use crate::set::is_in_set;
 use crate::sum::sum_at;
-use crate::table::is_table;
+use fzn_values::{Entries, is_all_different, is_circuit, is_cumulative, is_inverse, is_table};
 
 /// Whether the values, one for each variable in order, meet the constraint.
 pub fn holds(constraint: &Constraint, values: &[i64]) -> bool

@@ -8,9 +8,9 @@ ghost use Rattle.fzn_meaning.specs.WellFormed.{IsGoal};
 
 use crate::constraint::Constraint;
 use crate::meaning::holds;
-use crate::term::Term;
 use fzn_domain::{Domain, VarId};
 use fzn_list::{Items, Text};
+use fzn_values::Term;
 
 /// How the values of a variable are printed. `false` is 0 and `true` is 1.
 #[derive(Clone, Copy, Debug, PartialEq, Eq)]

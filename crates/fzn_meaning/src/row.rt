@@ -1,13 +1,11 @@
 // Separable rows: a sum of what each variable weighs at its value, and each table at its row, which is at most a bound.
 ghost use Rattle.std.specs.Prelude.{◌≡◌, ◌↔◌, ◌+◌, ◌*◌, ◌^◌, ◌≤◌, ◌-ℤ◌, ◌*ℤ◌, IsTrue, IfSome, length, unsigned_abs};
 ghost use Rattle.fzn_meaning.specs.Separable.{entry_in, listed_at, weighed, weight_at, row_weight, weight_of, RowHolds, IsWithinLimit, IsCoefficient, IsWeightList, IsTablePart, IsPart, IsSeparableRow};
-ghost use Rattle.fzn_meaning.specs.Term.{values_of};
+ghost use Rattle.fzn_values.specs.Term.{values_of};
 
-use crate::entries::Entries;
-use crate::table::{Rows, is_row};
-use crate::term::Term;
 use fzn_domain::VarId;
 use fzn_list::{Items, Shared};
+use fzn_values::{Entries, Rows, Term, is_row};
 
 /// A number for each of the numbers that follow one another from the first one, or none for one that is barred.
 #[derive(Debug, Drop)]

@@ -3,11 +3,11 @@ ghost use Rattle.std.specs.Prelude.{◌≡◌, ◌+◌, ◌*◌, ◌^◌, ◌<�
 ghost use Rattle.std.specs.List.{All};
 ghost use Rattle.fzn_list.specs.Limits.{longest};
 ghost use Rattle.fzn_domain.specs.Limits.{IsSmall};
-ghost use Rattle.fzn_meaning.specs.declared.term.Term.TheVariants.{Constant};
-ghost use Rattle.fzn_meaning.specs.Term.{IsPlace, sum_at, weighted};
+ghost use Rattle.fzn_values.specs.declared.term.Term.TheVariants.{Constant};
+ghost use Rattle.fzn_values.specs.Term.{IsPlace, sum_at, weighted};
 
-use crate::term::{Place, Term};
 use fzn_list::Shared;
+use fzn_values::{Place, Term};
 use std::marker::Model;
 
 /// Numbers with the terms that they are multiplied with, which contracts see as the list of its places. The two lists may have other
@@ -20,8 +20,8 @@ pub struct Sum {
 
 impl Model for Sum {
     ghost use Rattle.std.specs.Prelude.{List};
-    ghost use Rattle.fzn_meaning.specs.declared.term.Place.{Place};
-    ghost use Rattle.fzn_meaning.specs.Term.{weighted};
+    ghost use Rattle.fzn_values.specs.declared.term.Place.{Place};
+    ghost use Rattle.fzn_values.specs.Term.{weighted};
 
     ghost Value = { List Place };
 

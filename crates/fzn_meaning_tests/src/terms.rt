@@ -8,8 +8,9 @@ use fzn_builtin_rules::{
 };
 use fzn_domain::{Memory, VarId};
 use fzn_list::{Items, Shared};
-use fzn_meaning::{Model, Operation, Place, Rows, Term};
+use fzn_meaning::{Model, Operation};
 use fzn_sets::{Sets, greatest_value, is_fixed_to, is_index, least_value, may_be, term_at};
+use fzn_values::{Place, Rows, Term};
 use std::alloc::Global;
 use std::test::*;
 

@@ -1,8 +1,9 @@
 // Moves by elements of constants: from the values to the indices.
 use crate::moves::{MOST_VALUES, Move, Moves, Role, use_one, width_of};
 use fzn_domain::Memory;
-use fzn_meaning::{Constraint, Model, Term};
+use fzn_meaning::{Constraint, Model};
 use fzn_multipliers::{Bounds, Work};
+use fzn_values::Term;
 
 impl Moves {
     /// Lets what the values of elements weigh move to the indices, which are used then.

@@ -1,6 +1,6 @@
 // The inverses, by which what a place of the second list weighs moves to the places of the first.
 use fzn_domain::Memory;
-use fzn_meaning::Term;
+use fzn_values::Term;
 use std::alloc::Global;
 
 /// What a place of the second list of an inverse weighs at a number moves to the place of the first list that has the number: to its value

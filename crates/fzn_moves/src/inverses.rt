@@ -1,8 +1,9 @@
 // Moves by inverses: from the second lists to the first.
 use crate::moves::{MOST_VALUES, Moves, Role, use_all, width_of};
 use fzn_domain::Memory;
-use fzn_meaning::{Constraint, Model, Term};
+use fzn_meaning::{Constraint, Model};
 use fzn_multipliers::{Bounds, Work};
+use fzn_values::Term;
 
 impl Moves {
     /// Lets what the second lists of inverses weigh move to the first, whose places are used then.

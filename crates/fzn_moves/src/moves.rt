@@ -1,8 +1,9 @@
 // What moves from one variable to others: by equations of two, comparisons with numbers, elements of constants, tables, and inverses.
 use crate::exchanges::Exchanges;
 use fzn_domain::Memory;
-use fzn_meaning::{Model, Term};
+use fzn_meaning::Model;
 use fzn_multipliers::{Bounds, Rows, Work};
+use fzn_values::Term;
 use std::alloc::Global;
 use std::mem;
 

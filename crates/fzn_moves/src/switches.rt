@@ -1,5 +1,6 @@
 // Comparisons of one variable with a number, switched by a Boolean.
-use fzn_meaning::{Comparison, Constraint, Relation, Sum, Term};
+use fzn_meaning::{Comparison, Constraint, Relation, Sum};
+use fzn_values::Term;
 
 /// The switch is 1 exactly where the variable, times the coefficient, compares so with the bound.
 #[derive(Clone, Copy, Debug)]

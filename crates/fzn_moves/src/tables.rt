@@ -1,8 +1,9 @@
 // Moves by tables: from other columns to one in which no number stands twice.
 use crate::moves::{MOST_VALUES, Move, Moves, Role, use_one, width_of};
 use fzn_domain::Memory;
-use fzn_meaning::{Constraint, Model, Term};
+use fzn_meaning::{Constraint, Model};
 use fzn_multipliers::{Bounds, Work};
+use fzn_values::Term;
 use std::alloc::Global;
 
 /// A table of more numbers is left out: a row costs what all its tables have in each round.

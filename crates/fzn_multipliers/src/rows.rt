@@ -9,7 +9,8 @@ ghost use Rattle.fzn_builtin_rules.specs.Borrowed.{places_in};
 use crate::work::Work;
 use fzn_builtin_rules::{Places, form_of};
 use fzn_domain::Memory;
-use fzn_meaning::{Comparison, Constraint, Model, Place, Term};
+use fzn_meaning::{Comparison, Constraint, Model};
+use fzn_values::{Place, Term};
 use std::alloc::Global;
 
 /// So many places of sums are read at the most.

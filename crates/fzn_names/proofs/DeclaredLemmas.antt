@@ -9,10 +9,10 @@ use Rattle.fzn_domain.specs.Narrow.{IsVariable, set_of}
 use Rattle.fzn_lexer.specs.declared.fault.FaultKind.TheVariants.{SetRefused, DuplicateName, UnknownName, «Type» as WrongType, Length, TooMany, OutputAnnotation}
 use Rattle.fzn_meaning.specs.declared.model.Kind.{Kind}
 use Rattle.fzn_meaning.specs.declared.model.Kind.TheVariants as k
-use Rattle.fzn_meaning.specs.declared.term.Term.{Term}
+use Rattle.fzn_values.specs.declared.term.Term.{Term}
 use Rattle.fzn_meaning.specs.Meaning.{IsBoolean}
 use Rattle.fzn_meaning.specs.Solutions.{declared_sets}
-use Rattle.fzn_meaning.specs.Term.{IsTerm}
+use Rattle.fzn_values.specs.Term.{IsTerm}
 use Rattle.fzn_names.specs.Annotations.{is_marked, is_array_mark, is_bad_array_mark, mark_faults}
 use Rattle.fzn_names.specs.Outputs.{single_item, array_item, output_items, shown_from}
 use Rattle.fzn_meaning.specs.declared.model.OutputItem.{OutputItem}

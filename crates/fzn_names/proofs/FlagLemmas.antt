@@ -8,9 +8,9 @@ use Rattle.fzn_domain.specs.declared.literal.VarId.{VarId}
 use Rattle.fzn_domain.specs.Narrow.{IsVariable}
 use Rattle.fzn_meaning.specs.declared.model.OutputItem.{OutputItem}
 use Rattle.fzn_meaning.specs.declared.model.OutputItem.TheVariants as items
-use Rattle.fzn_meaning.specs.declared.term.Term.{Term}
-use Rattle.fzn_meaning.specs.declared.term.Term.TheVariants as terms
-use Rattle.fzn_meaning.specs.Term.{IsTerm}
+use Rattle.fzn_values.specs.declared.term.Term.{Term}
+use Rattle.fzn_values.specs.declared.term.Term.TheVariants as terms
+use Rattle.fzn_values.specs.Term.{IsTerm}
 use Rattle.fzn_meaning.specs.WellFormed.{IsOutputItem}
 use Rattle.fzn_names.specs.Flags.{with_var, with_terms, with_item, with_items, flagged}
 use Rattle.fzn_names.specs.Outputs.{IsShownIn, IsShown}

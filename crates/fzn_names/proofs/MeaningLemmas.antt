@@ -7,9 +7,9 @@ use Rattle.fzn_domain.specs.IntSet.{IntSet, range}
 use Rattle.fzn_domain.specs.Limits.{IsInLimits, IsLimited}
 use Rattle.fzn_meaning.specs.declared.model.Kind.{Kind}
 use Rattle.fzn_meaning.specs.declared.model.Kind.TheVariants as k
-use Rattle.fzn_meaning.specs.declared.term.Term.{Term}
+use Rattle.fzn_values.specs.declared.term.Term.{Term}
 use Rattle.fzn_meaning.specs.Meaning.{IsBit, IsBoolean, longest}
-use Rattle.fzn_meaning.specs.Term.{IsTerm}
+use Rattle.fzn_values.specs.Term.{IsTerm}
 use Rattle.fzn_names.specs.Types.{fits, is_wanted, wrong_in}
 use Rattle.fzn_names.specs.Limits.{IsLiteralWithin, IsBasicWithin}
 use Rattle.fzn_names.specs.Positions.{when, position_of}

@@ -4,7 +4,7 @@ use Rattle.std.specs.List.{Any}
 use Rattle.fzn_domain.specs.declared.literal.VarId.{VarId}
 use Rattle.fzn_meaning.specs.declared.model.OutputItem.{OutputItem}
 use Rattle.fzn_meaning.specs.declared.model.OutputItem.TheVariants as items
-use Rattle.fzn_meaning.specs.declared.term.Term.TheVariants as terms
+use Rattle.fzn_values.specs.declared.term.Term.TheVariants as terms
 use Rattle.fzn_names.specs.Annotations.{is_marked, is_array_mark, ranges_in, listed_terms}
 use Rattle.fzn_names.specs.Declarations.{number_after}
 use Rattle.fzn_tree.specs.declared.tree.Ann.{Ann, out-Ann}

@@ -4,8 +4,8 @@ use Rattle.std.specs.FinSet as set
 use Rattle.std.specs.Map.{lookup}
 use Rattle.fzn_domain.specs.IntSet.{IntSet, no_values, range}
 use Rattle.fzn_meaning.specs.declared.model.Kind.TheVariants.{Integer, Boolean}
-use Rattle.fzn_meaning.specs.declared.term.Term.{Term}
-use Rattle.fzn_meaning.specs.declared.term.Term.TheVariants as terms
+use Rattle.fzn_values.specs.declared.term.Term.{Term}
+use Rattle.fzn_values.specs.declared.term.Term.TheVariants as terms
 use Rattle.fzn_names.specs.declared.names.Declared.{Declared}
 use Rattle.fzn_names.specs.declared.names.Declared.TheVariants.{Constant, Set, Constants, Array, Variable}
 use Rattle.fzn_tree.specs.declared.tree.Basic.{Basic}

@@ -4,14 +4,15 @@ ghost use Rattle.std.specs.List.{All, AllPairs};
 ghost use Rattle.fzn_domain.specs.declared.literal.VarId.{VarId};
 ghost use Rattle.fzn_domain.specs.Narrow.{IsVariable};
 ghost use Rattle.fzn_meaning.specs.Meaning.{longest};
-ghost use Rattle.fzn_meaning.specs.Term.{IsTerm};
+ghost use Rattle.fzn_values.specs.Term.{IsTerm};
 ghost use Rattle.fzn_meaning.specs.WellFormed.{IsOutputItem};
 ghost use Rattle.fzn_names.specs.Flags.{with_terms, with_item, with_items, flagged};
 ghost use Rattle.fzn_names.specs.Outputs.{IsShown};
 
 use fzn_domain::VarId;
 use fzn_list::Items;
-use fzn_meaning::{OutputItem, Term};
+use fzn_meaning::OutputItem;
+use fzn_values::Term;
 use std::alloc::{AllocError, Global};
 
 fn flag_terms(flags: &mut [bool], mut terms: &[Term])

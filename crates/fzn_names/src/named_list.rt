@@ -4,7 +4,7 @@ ghost use Rattle.std.specs.List.{list_any};
 ghost use Rattle.fzn_names.specs.Signs.{is_negative};
 
 use fzn_list::{Items, Shared};
-use fzn_meaning::Term;
+use fzn_values::Term;
 use std::alloc::{AllocError, Global};
 use std::marker::Model;
 
@@ -19,7 +19,7 @@ pub struct NamedList {
 impl Model for NamedList {
     ghost use Rattle.std.specs.Prelude.{List, ◌≡◌};
     ghost use Rattle.std.specs.List.{list_any};
-    ghost use Rattle.fzn_meaning.specs.declared.term.Term.{Term};
+    ghost use Rattle.fzn_values.specs.declared.term.Term.{Term};
     ghost use Rattle.fzn_names.specs.Signs.{is_negative};
 
     ghost Value = { List Term };

@@ -10,9 +10,10 @@ ghost use Rattle.fzn_names.specs.Values.{literal_value, basic_meaning, value_ter
 use crate::names::{Declared, Names};
 use fzn_lexer::Position;
 use fzn_list::{Items, Shared};
-use fzn_meaning::{Kind, Term};
+use fzn_meaning::Kind;
 use fzn_registry::Argument;
 use fzn_tree::{Basic, Literal, Name};
+use fzn_values::Term;
 use std::alloc::{AllocError, Global};
 
 /// Where the literal begins.

@@ -1,10 +1,10 @@
 // The objective with a sum of rows, each times its multiplier, and with prices, where each variable is free within its declared set.
 use crate::multiplier::{Multiplier, narrowed};
 use fzn_domain::Memory;
-use fzn_meaning::Term;
 use fzn_moves::{Exchange, Move, NO_ENTRY};
 use fzn_multipliers::{Row, Rows};
 use fzn_relaxation::{Apart, List, Problem};
+use fzn_values::Term;
 use std::alloc::Global;
 
 /// The sum that some multipliers and prices make, and where it is least.

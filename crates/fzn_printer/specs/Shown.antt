@@ -10,8 +10,8 @@ use Rattle.fzn_meaning.specs.declared.model.IndexRange.{IndexRange}
 use Rattle.fzn_meaning.specs.declared.model.OutputItem.{OutputItem}
 use Rattle.fzn_meaning.specs.declared.model.OutputItem.TheVariants.{Single, Array}
 use Rattle.fzn_meaning.specs.declared.model.Model.{Model}
-use Rattle.fzn_meaning.specs.declared.term.Term.{Term}
-use Rattle.fzn_meaning.specs.Term.{term_value}
+use Rattle.fzn_values.specs.declared.term.Term.{Term}
+use Rattle.fzn_values.specs.Term.{term_value}
 use Rattle.fzn_printer.specs.declared.printer.Ending.{Ending}
 use Rattle.fzn_printer.specs.declared.printer.Ending.TheVariants.{Complete, Unsatisfiable, NodeLimit, SolutionLimit}
 

@@ -3,7 +3,7 @@ ghost use Rattle.std.specs.Prelude.{◌≡◌, ◌∷◌, [], ◌++◌, codes, l
 ghost use Rattle.std.specs.List.{All, flat_map};
 ghost use Rattle.std.specs.Fmt.{decimal};
 ghost use Rattle.fzn_domain.specs.Narrow.{IsVariable, value_of};
-ghost use Rattle.fzn_meaning.specs.Term.{IsTerm};
+ghost use Rattle.fzn_values.specs.Term.{IsTerm};
 ghost use Rattle.fzn_meaning.specs.WellFormed.{IsOutputItem};
 ghost use Rattle.fzn_streams.specs.Output.{Puts, IsStreamDue};
 ghost use Rattle.fzn_meaning.specs.declared.model.OutputItem.TheVariants.{Single, Array};
@@ -12,8 +12,9 @@ ghost use Rattle.fzn_printer.specs.Shown.{value_text, range_text, entry_text, en
 use crate::value::{put_count, put_range, put_value};
 use fzn_domain::VarId;
 use fzn_list::Text;
-use fzn_meaning::{IndexRange, Kind, Model, OutputItem, Term};
+use fzn_meaning::{IndexRange, Kind, Model, OutputItem};
 use fzn_streams::{TrackedWrite, WriteFailed, put};
+use fzn_values::Term;
 
 /// The lines of the marked declarations, and ten dashes.
 pub fn put_solution<W: TrackedWrite>(

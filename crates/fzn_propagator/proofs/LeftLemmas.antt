@@ -11,9 +11,9 @@ use Rattle.fzn_domain.specs.IntSet.{IntSet, contains, size, no_values, is_possib
 use Rattle.fzn_domain.specs.Narrow.{IsVariable, IsClauseOver, NoneEmpty, set_of, narrowed, denied, possible_in, is_some_empty}
 use Rattle.fzn_domain.proofs.SetLemmas.{kept_within, is_true_at-negated, member_of_size, contains-least, contains-greatest, least_le}
 use Rattle.fzn_domain.proofs.NarrowLemmas.{length-narrowed, set_of-narrowed, other_set-narrowed, length-denied}
-use Rattle.fzn_meaning.specs.declared.term.Term.{Term}
-use Rattle.fzn_meaning.specs.declared.term.Term.TheVariants.{Constant, Variable}
-use Rattle.fzn_meaning.specs.Term.{IsTerm}
+use Rattle.fzn_values.specs.declared.term.Term.{Term}
+use Rattle.fzn_values.specs.declared.term.Term.TheVariants.{Constant, Variable}
+use Rattle.fzn_values.specs.Term.{IsTerm}
 use Rattle.fzn_sets.specs.Terms.{MayBe, least_value, greatest_value}
 use Rattle.fzn_sets.proofs.CallerLemmas.{nonempty_at}
 use Rattle.fzn_trail.specs.Levels.{IsNarrower}

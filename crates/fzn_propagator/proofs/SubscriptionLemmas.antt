@@ -3,8 +3,8 @@ use Rattle.std.proofs.Common.{List, [], ◌∷◌, ◌++◌, length-append, map,
 use Rattle.std.specs.List.{All, flat_map}
 use Rattle.std.proofs.lemmas.List.{get_or_append_left}
 use Rattle.std.proofs.lemmas.List.Elements.{All-nil, All-cons, All-tail, All-append, All-weaker, Contains-append_left, Contains-append_right, Contains-push}
-use Rattle.fzn_meaning.specs.declared.term.Term.{Term}
-use Rattle.fzn_meaning.specs.declared.term.Term.TheVariants.{Constant, Variable}
+use Rattle.fzn_values.specs.declared.term.Term.{Term}
+use Rattle.fzn_values.specs.declared.term.Term.TheVariants.{Constant, Variable}
 use Rattle.fzn_propagator.specs.declared.event.Event.{Event}
 use Rattle.fzn_propagator.specs.declared.subscriptions.Subscription.{Subscription}
 use Rattle.fzn_propagator.specs.Subscriptions.{subscription, waits, waits_each, IsHeard, AreHeard}

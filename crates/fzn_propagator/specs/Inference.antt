@@ -5,7 +5,7 @@ use Rattle.fzn_domain.specs.IntSet.{IntSet}
 use Rattle.fzn_domain.specs.Ascending.{IsAscending}
 use Rattle.fzn_domain.specs.Narrow.{IsWithin}
 pub use Rattle.fzn_domain.specs.Narrow.{AllFixed}
-use Rattle.fzn_meaning.specs.declared.term.Place.{Place}
+use Rattle.fzn_values.specs.declared.term.Place.{Place}
 use Rattle.fzn_meaning.specs.declared.constraint.Constraint.{Constraint}
 use Rattle.fzn_meaning.specs.Meaning.{Meets, HasBooleanSets}
 use Rattle.fzn_rules.specs.declared.rule.Rule.{Rule}

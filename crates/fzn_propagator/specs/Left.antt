@@ -5,8 +5,8 @@ use Rattle.fzn_domain.specs.declared.literal.Lit.{Lit}
 use Rattle.fzn_domain.specs.Literal.{is_true_at}
 use Rattle.fzn_domain.specs.IntSet.{IntSet, contains}
 use Rattle.fzn_domain.specs.Narrow.{set_of}
-use Rattle.fzn_meaning.specs.declared.term.Term.{Term}
-use Rattle.fzn_meaning.specs.declared.term.Term.TheVariants.{Constant, Variable}
+use Rattle.fzn_values.specs.declared.term.Term.{Term}
+use Rattle.fzn_values.specs.declared.term.Term.TheVariants.{Constant, Variable}
 
 -- a value of the term at which no literal of the clause is true
 abbrev pub IsLeft : List IntSet → List Lit → Term → ℤ → Type 0

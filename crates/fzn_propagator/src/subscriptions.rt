@@ -4,7 +4,7 @@ ghost use Rattle.fzn_propagator.specs.Subscriptions.{waits, waits_each, waits_so
 
 use crate::event::Event;
 use fzn_domain::{Memory, VarId};
-use fzn_meaning::Term;
+use fzn_values::Term;
 use std::alloc::Global;
 use std::marker::Model;
 

@@ -3,7 +3,7 @@ use Rattle.std.proofs.Common.{◌≡◌, ℕ, List, get_or, Option, Some, None, 
 use Rattle.std.specs.Prelude.{IfNone}
 use Rattle.fzn_meaning.specs.declared.constraint.Constraint.{Constraint}
 use Rattle.fzn_meaning.specs.declared.constraint.Constraint.TheVariants.{AllDifferent, Inverse}
-use Rattle.fzn_meaning.specs.declared.term.Term.{Term}
+use Rattle.fzn_values.specs.declared.term.Term.{Term}
 use Rattle.fzn_builtin_rules.specs.Choices.{inputs_of}
 use Rattle.fzn_builtin_rules.specs.Form.{form_of}
 use Rattle.fzn_globals.specs.Kinds.{IsOther}

@@ -8,10 +8,10 @@ ghost use Rattle.fzn_reading.specs.Taken.{variable_count, StaysOver, KeepsAnnota
 use crate::written::{Search, Written, name_alone, written_in};
 use fzn_domain::VarId;
 use fzn_list::{Items, Text};
-use fzn_meaning::Term;
 use fzn_names::{Declared, Names};
 use fzn_strategy::Annotation;
 use fzn_tree::{Ann, AnnArg, AnnTerm, Literal};
+use fzn_values::Term;
 use indexmap::IndexMap;
 use std::alloc::{AllocError, Global};
 

@@ -6,12 +6,13 @@ ghost use Rattle.fzn_typing.specs.Limits.{IsTreeWithin};
 use fzn_domain::VarId;
 use fzn_lexer::{Fault, Halt, tokens};
 use fzn_list::Items;
-use fzn_meaning::{Goal, Kind, OutputItem, Term};
+use fzn_meaning::{Goal, Kind, OutputItem};
 use fzn_names::{Declared, Names, names_of, outputs_of, shown_of, vars_of};
 use fzn_parser::parse;
 use fzn_reading::within_limits;
 use fzn_tree::{Tree, Var};
 use fzn_typing::type_check;
+use fzn_values::Term;
 use std::alloc::{AllocError, Global};
 use std::test::*;
 

@@ -3,7 +3,7 @@ use crate::names::tree_of;
 use fzn_domain::{Domain, VarId};
 use fzn_lexer::Position;
 use fzn_list::{Items, Text};
-use fzn_meaning::{Kind, Term};
+use fzn_meaning::Kind;
 use fzn_names::{
     Declared, NamedList, Names, array_of, first_set_in, first_unknown_in, first_wrong_in,
     has_negative_entry, is_negative, kind_of, list_of, literal_terms, no_values, position_of,
@@ -12,6 +12,7 @@ use fzn_names::{
 };
 use fzn_registry::Argument;
 use fzn_tree::{Arg, Base, Basic, Int, Literal, ParamValue, Range, Tree, Values};
+use fzn_values::Term;
 use std::alloc::{AllocError, Global};
 use std::test::*;
 

@@ -1,8 +1,9 @@
 // The constraints whose places have different values.
 use fzn_domain::Memory;
-use fzn_meaning::{Constraint, Model, Term};
+use fzn_meaning::{Constraint, Model};
 use fzn_moves::MOST_VALUES;
 use fzn_multipliers::{Bounds, Work};
+use fzn_values::Term;
 use std::alloc::Global;
 
 /// What is known of the places besides that no two have one value.

@@ -1,8 +1,9 @@
 // Which tables may be weighed.
 use fzn_domain::Memory;
-use fzn_meaning::{Model, Term};
+use fzn_meaning::Model;
 use fzn_moves::{Moves, TableView};
 use fzn_multipliers::{Bounds, Work};
+use fzn_values::Term;
 use std::alloc::Global;
 
 /// So many numbers all of them have together, at the most: each is looked at in each round.

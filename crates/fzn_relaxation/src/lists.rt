@@ -2,9 +2,10 @@
 use crate::apart::{Apart, Aparts, Kind};
 use crate::tables::Tables;
 use fzn_domain::Memory;
-use fzn_meaning::{Model, Term};
+use fzn_meaning::Model;
 use fzn_moves::{Exchange, MOST_VALUES, Move, Moves};
 use fzn_multipliers::Bounds;
+use fzn_values::Term;
 use std::alloc::Global;
 
 /// The values of a variable from its least to its greatest.

@@ -2,9 +2,10 @@
 use crate::apart::Aparts;
 use crate::choosing::Chosen;
 use fzn_domain::Memory;
-use fzn_meaning::{Model, Term};
+use fzn_meaning::Model;
 use fzn_moves::{Moves, TableView};
 use fzn_multipliers::{Bounds, Work};
+use fzn_values::Term;
 use std::alloc::Global;
 
 /// A column has prices whose variable has at most so many values: each is looked at in each round.

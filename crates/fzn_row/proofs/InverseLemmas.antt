@@ -1,7 +1,7 @@
 -- Changes that go from place to place with a number.
 use Rattle.std.proofs.Common.{◌≡◌, ℕ, suc, ◌+◌, ◌<◌, List, [], ◌∷◌, ◌++◌, length, get_or, take, drop, refl, sym, ap, ◌∙◌, inl, inr, ◌⊎◌, arith, ℤ, pos, ◌+ℤ◌, Option, Result, Ok, Err}
 use Rattle.std.proofs.lemmas.List.{take_more, drop_more, take-append-drop, length-take}
-use Rattle.fzn_meaning.specs.declared.term.Term.{Term}
+use Rattle.fzn_values.specs.declared.term.Term.{Term}
 use Rattle.fzn_meaning.specs.declared.row.VariablePart.{VariablePart}
 use Rattle.fzn_meaning.specs.Separable.{weight_at}
 use Rattle.fzn_cited.specs.declared.fault.DeriveFault.{DeriveFault}

@@ -1,6 +1,6 @@
 -- The terms of an inverse are well formed.
 use Rattle.std.proofs.Common.{◌≡◌, ℕ, List, subst}
-use Rattle.fzn_meaning.specs.declared.term.Term.{Term}
+use Rattle.fzn_values.specs.declared.term.Term.{Term}
 use Rattle.fzn_meaning.specs.declared.constraint.Constraint.{Constraint}
 use Rattle.fzn_meaning.specs.declared.constraint.Constraint.TheVariants as constraint
 use Rattle.fzn_meaning.specs.Meaning.{IsWellFormedConstraint, AreTerms}

@@ -10,11 +10,11 @@ use Rattle.std.proofs.lemmas.List.Quantifiers.{position-Some}
 use Rattle.std.proofs.lemmas.List.Elements.{All-head, All-tail}
 use Rattle.fzn_domain.specs.declared.literal.VarId.{VarId}
 use Rattle.fzn_domain.specs.Narrow.{IsVariable, value_of}
-use Rattle.fzn_meaning.specs.declared.term.Term.{Term}
-use Rattle.fzn_meaning.specs.declared.term.Term.TheVariants.{Constant, Variable}
-use Rattle.fzn_meaning.specs.Term.{IsTerm, term_value, values_of}
-use Rattle.fzn_meaning.specs.Entries.{IsIndex, entry_at}
-use Rattle.fzn_meaning.specs.Inverse.{IsInverse}
+use Rattle.fzn_values.specs.declared.term.Term.{Term}
+use Rattle.fzn_values.specs.declared.term.Term.TheVariants.{Constant, Variable}
+use Rattle.fzn_values.specs.Term.{IsTerm, term_value, values_of}
+use Rattle.fzn_values.specs.Entries.{IsIndex, entry_at}
+use Rattle.fzn_values.specs.Inverse.{IsInverse}
 use Rattle.fzn_cited.specs.declared.fault.DeriveFault.{DeriveFault}
 use Rattle.fzn_cited.specs.declared.fault.DeriveFault.TheVariants.{NotDerived}
 use Rattle.fzn_meaning.specs.declared.row.VariablePart.{VariablePart}

@@ -5,13 +5,13 @@ use Rattle.std.proofs.lemmas.Int.{ints}
 use Rattle.std.proofs.lemmas.List.Elements.{All-head, All-tail, All-cons, All-nil}
 use Rattle.fzn_domain.specs.IntSet.{IntSet}
 use Rattle.fzn_domain.specs.Narrow.{IsWithin}
-use Rattle.fzn_meaning.specs.declared.term.Term.{Term}
-use Rattle.fzn_meaning.specs.declared.term.Term.TheVariants.{Constant, Variable}
-use Rattle.fzn_meaning.specs.declared.term.Place.{Place}
+use Rattle.fzn_values.specs.declared.term.Term.{Term}
+use Rattle.fzn_values.specs.declared.term.Term.TheVariants.{Constant, Variable}
+use Rattle.fzn_values.specs.declared.term.Place.{Place}
 use Rattle.fzn_meaning.specs.declared.relation.Comparison.{Comparison}
 use Rattle.fzn_meaning.specs.declared.relation.Comparison.TheVariants.{AtMost, Equal, NotEqual}
 use Rattle.fzn_meaning.specs.declared.constraint.Constraint.{Constraint}
-use Rattle.fzn_meaning.specs.Term.{term_value, product_at, sum_at}
+use Rattle.fzn_values.specs.Term.{term_value, product_at, sum_at}
 use Rattle.fzn_meaning.specs.Comparisons.{IsSwitched}
 use Rattle.fzn_meaning.specs.Linear.{IsLinear}
 use Rattle.fzn_meaning.specs.Meaning.{Meets, HasBooleanSets, switch_value}

@@ -11,16 +11,16 @@ use Rattle.std.proofs.lemmas.List.Elements.{All-head, All-tail, All-nil, All-con
 use Rattle.fzn_domain.specs.declared.literal.VarId.{VarId}
 use Rattle.fzn_domain.specs.IntSet.{IntSet, contains, size, least, greatest}
 use Rattle.fzn_domain.specs.Narrow.{IsWithin, IsVariable, set_of, value_of}
-use Rattle.fzn_meaning.specs.declared.term.Term.{Term}
-use Rattle.fzn_meaning.specs.declared.term.Term.TheVariants.{Constant, Variable}
+use Rattle.fzn_values.specs.declared.term.Term.{Term}
+use Rattle.fzn_values.specs.declared.term.Term.TheVariants.{Constant, Variable}
 use Rattle.fzn_meaning.specs.declared.constraint.Constraint.{Constraint}
 use Rattle.fzn_meaning.specs.declared.constraint.Constraint.TheVariants.{AllDifferent, Circuit, Inverse}
-use Rattle.fzn_meaning.specs.Term.{IsTerm, term_value, values_of}
-use Rattle.fzn_meaning.specs.AllDifferent.{IsAllDifferent}
-use Rattle.fzn_meaning.specs.Entries.{IsIndex, entry_at}
-use Rattle.fzn_meaning.specs.Inverse.{IsInverse}
+use Rattle.fzn_values.specs.Term.{IsTerm, term_value, values_of}
+use Rattle.fzn_values.specs.AllDifferent.{IsAllDifferent}
+use Rattle.fzn_values.specs.Entries.{IsIndex, entry_at}
+use Rattle.fzn_values.specs.Inverse.{IsInverse}
 use Rattle.fzn_meaning.specs.Meaning.{Meets, IsWellFormedConstraint, AreTerms}
-use Rattle.fzn_meaning.proofs.CallerLemmas.{circuit-different, length-values_of}
+use Rattle.fzn_values.proofs.CallerLemmas.{circuit-different, length-values_of}
 use Rattle.fzn_domain.proofs.SetLemmas.{size_above_zero, least_le, le_greatest}
 use Rattle.fzn_cited.specs.declared.fault.DeriveFault.{DeriveFault}
 use Rattle.fzn_cited.specs.declared.fault.DeriveFault.TheVariants.{NoSuchConstraint, NotDerived}

@@ -12,8 +12,8 @@ use Rattle.fzn_list.specs.Limits.{longest}
 use Rattle.fzn_domain.specs.Limits.{IsInLimits}
 use Rattle.fzn_cited.specs.declared.fault.DeriveFault.{DeriveFault}
 use Rattle.fzn_cited.specs.declared.fault.DeriveFault.TheVariants.{NotDerived}
-use Rattle.fzn_meaning.specs.declared.term.Term.{Term}
-use Rattle.fzn_meaning.specs.declared.term.Term.TheVariants as term
+use Rattle.fzn_values.specs.declared.term.Term.{Term}
+use Rattle.fzn_values.specs.declared.term.Term.TheVariants as term
 use Rattle.fzn_meaning.specs.declared.row.VariablePart.{VariablePart}
 use Rattle.fzn_meaning.specs.declared.row.TablePart.{TablePart}
 use Rattle.fzn_meaning.specs.declared.constraint.Constraint.{Constraint}

@@ -9,11 +9,11 @@ use Rattle.std.proofs.lemmas.List.{drop-drop}
 use Rattle.std.proofs.lemmas.List.Elements.{All-nil, All-cons, All-head, All-tail}
 use Rattle.fzn_domain.specs.IntSet.{IntSet, contains}
 use Rattle.fzn_domain.specs.Narrow.{IsWithin, set_of, value_of}
-use Rattle.fzn_meaning.specs.declared.term.Term.{Term}
-use Rattle.fzn_meaning.specs.declared.term.Term.TheVariants.{Constant, Variable}
-use Rattle.fzn_meaning.specs.Term.{IsTerm, term_value, values_of}
-use Rattle.fzn_meaning.specs.Table.{row_at, IsTable}
-use Rattle.fzn_meaning.proofs.CallerLemmas.{length-values_of}
+use Rattle.fzn_values.specs.declared.term.Term.{Term}
+use Rattle.fzn_values.specs.declared.term.Term.TheVariants.{Constant, Variable}
+use Rattle.fzn_values.specs.Term.{IsTerm, term_value, values_of}
+use Rattle.fzn_values.specs.Table.{row_at, IsTable}
+use Rattle.fzn_values.proofs.CallerLemmas.{length-values_of}
 use Rattle.fzn_meaning.specs.declared.row.TablePart.{TablePart}
 use Rattle.fzn_meaning.specs.declared.row.Part.TheVariants.{Table}
 use Rattle.fzn_meaning.specs.Separable.{begins_with, row_weight, weight_of, total_weight}

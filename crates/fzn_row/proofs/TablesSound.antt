@@ -10,14 +10,14 @@ use Rattle.fzn_domain.specs.declared.literal.VarId.{VarId}
 use Rattle.fzn_domain.specs.IntSet.{IntSet, least, greatest}
 use Rattle.fzn_domain.specs.Narrow.{IsWithin, set_of, value_of}
 use Rattle.fzn_domain.proofs.SetLemmas.{least_le, le_greatest}
-use Rattle.fzn_meaning.specs.declared.term.Term.{Term}
-use Rattle.fzn_meaning.specs.declared.term.Term.TheVariants.{Constant, Variable}
+use Rattle.fzn_values.specs.declared.term.Term.{Term}
+use Rattle.fzn_values.specs.declared.term.Term.TheVariants.{Constant, Variable}
 use Rattle.fzn_meaning.specs.declared.constraint.Constraint.{Constraint}
 use Rattle.fzn_meaning.specs.declared.constraint.Constraint.TheVariants.{Table}
-use Rattle.fzn_meaning.specs.Term.{IsTerm, term_value, values_of}
-use Rattle.fzn_meaning.specs.Table.{IsTable}
+use Rattle.fzn_values.specs.Term.{IsTerm, term_value, values_of}
+use Rattle.fzn_values.specs.Table.{IsTable}
 use Rattle.fzn_meaning.specs.Meaning.{Meets, IsWellFormedConstraint}
-use Rattle.fzn_meaning.proofs.CallerLemmas.{length-values_of, get_or-values_of}
+use Rattle.fzn_values.proofs.CallerLemmas.{length-values_of, get_or-values_of}
 use Rattle.fzn_meaning.specs.declared.row.TablePart.{TablePart}
 use Rattle.fzn_meaning.specs.declared.row.VariablePart.{VariablePart}
 use Rattle.fzn_meaning.specs.declared.row.Part.TheVariants as row_part

@@ -4,7 +4,7 @@ ghost use Rattle.std.specs.List.{All};
 ghost use Rattle.std.specs.Option.{option_map_or};
 ghost use Rattle.fzn_list.specs.Limits.{longest};
 ghost use Rattle.fzn_domain.specs.Narrow.{IsVariable};
-ghost use Rattle.fzn_meaning.specs.Term.{IsTerm};
+ghost use Rattle.fzn_values.specs.Term.{IsTerm};
 ghost use Rattle.fzn_meaning.specs.Meaning.{AreTerms};
 ghost use Rattle.fzn_cited.specs.declared.fault.DeriveFault.TheVariants.{Memory, NotDerived};
 ghost use Rattle.fzn_meaning.specs.Separable.{IsWeightList, IsCoefficient};
@@ -17,7 +17,8 @@ ghost use Rattle.fzn_row.specs.Room.{draft_of, room_size, IsRoom};
 use crate::room::RowDeriver;
 use fzn_cited::DeriveFault;
 use fzn_domain::VarId;
-use fzn_meaning::{Listed, Term, VariablePart, weight_at};
+use fzn_meaning::{Listed, VariablePart, weight_at};
+use fzn_values::Term;
 use fzn_weights::{MOST_TARGETS, place_in, raised};
 use std::alloc::Global;
 

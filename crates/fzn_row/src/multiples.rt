@@ -2,7 +2,7 @@
 ghost use Rattle.std.specs.Prelude.{◌≡◌, ◌⊎◌, ◌*◌, ◌≤◌, length, unsigned_abs, IfErr, OnOk, Ok, Err};
 ghost use Rattle.std.specs.List.{All};
 ghost use Rattle.fzn_list.specs.Limits.{longest};
-ghost use Rattle.fzn_meaning.specs.Term.{IsPlace};
+ghost use Rattle.fzn_values.specs.Term.{IsPlace};
 ghost use Rattle.fzn_meaning.specs.Meaning.{IsWellFormedConstraint};
 ghost use Rattle.fzn_builtin_rules.specs.Borrowed.{places_in, form_in};
 ghost use Rattle.fzn_builtin_rules.specs.Form.{Fits};
@@ -14,7 +14,8 @@ ghost use Rattle.fzn_row.specs.Room.{draft_of, room_size, IsRoom};
 use crate::room::RowDeriver;
 use fzn_builtin_rules::{Form, Places, form_of};
 use fzn_cited::{DeriveFault, Multiple, constraint_at};
-use fzn_meaning::{Constraint, Place, Term};
+use fzn_meaning::Constraint;
+use fzn_values::{Place, Term};
 use fzn_weights::{is_usable, less_product, product};
 
 impl RowDeriver {

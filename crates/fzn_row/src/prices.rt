@@ -2,7 +2,7 @@
 ghost use Rattle.std.specs.Prelude.{◌≡◌, ◌⊎◌, true, length, IfErr, OnOk, Ok, Err};
 ghost use Rattle.std.specs.List.{All};
 ghost use Rattle.fzn_domain.specs.Narrow.{IsVariable};
-ghost use Rattle.fzn_meaning.specs.Term.{IsTerm};
+ghost use Rattle.fzn_values.specs.Term.{IsTerm};
 ghost use Rattle.fzn_meaning.specs.Meaning.{IsWellFormedConstraint};
 ghost use Rattle.fzn_meaning.specs.Solutions.{declared_sets};
 ghost use Rattle.fzn_cited.specs.declared.fault.DeriveFault.TheVariants.{Memory};
@@ -14,7 +14,8 @@ ghost use Rattle.fzn_row.specs.Room.{draft_of, room_size, IsRoom};
 use crate::room::RowDeriver;
 use fzn_cited::{DeriveFault, constraint_at};
 use fzn_domain::VarId;
-use fzn_meaning::{Constraint, Listed, Term, Var};
+use fzn_meaning::{Constraint, Listed, Var};
+use fzn_values::Term;
 use fzn_weights::{
     are_prices, are_within, entries_of, has_each_price, less_price, most_cost, priced_places,
 };

@@ -5,7 +5,7 @@ ghost use Rattle.fzn_list.specs.Limits.{longest};
 ghost use Rattle.fzn_domain.specs.IntSet.{least};
 ghost use Rattle.fzn_domain.specs.Limits.{IsInLimits};
 ghost use Rattle.fzn_domain.specs.Narrow.{IsVariable};
-ghost use Rattle.fzn_meaning.specs.Term.{IsTerm};
+ghost use Rattle.fzn_values.specs.Term.{IsTerm};
 ghost use Rattle.fzn_meaning.specs.Meaning.{IsWellFormedConstraint, AreTerms};
 ghost use Rattle.fzn_meaning.specs.Separable.{IsTablePart};
 ghost use Rattle.fzn_meaning.specs.Solutions.{declared_sets};
@@ -22,7 +22,8 @@ use crate::room::{BegunTable, RowDeriver};
 use fzn_cited::{DeriveFault, constraint_at};
 use fzn_domain::{Domain, VarId};
 use fzn_list::Shared;
-use fzn_meaning::{Constraint, Listed, Rows, TablePart, Term, Var};
+use fzn_meaning::{Constraint, Listed, TablePart, Var};
+use fzn_values::{Rows, Term};
 use fzn_weights::{
     Amount, are_prices, blank_table, declared_set, is_narrow, lowered, place_in, price_at, span,
     weights_raised,

@@ -4,14 +4,14 @@ use Rattle.std.specs.List.{All, Contains}
 use Rattle.std.proofs.lemmas.List.Elements.{All-contains, Contains-get_or}
 use Rattle.fzn_domain.specs.IntSet.{IntSet}
 use Rattle.fzn_domain.specs.Narrow.{IsWithin}
-use Rattle.fzn_meaning.specs.declared.term.Term.{Term}
+use Rattle.fzn_values.specs.declared.term.Term.{Term}
 use Rattle.fzn_meaning.specs.declared.constraint.Constraint.{Constraint}
 use Rattle.fzn_meaning.specs.declared.constraint.Constraint.TheVariants.{Circuit}
-use Rattle.fzn_meaning.specs.Circuit.{IsCircuit}
-use Rattle.fzn_meaning.specs.Entries.{IsIndex, entry_at}
-use Rattle.fzn_meaning.specs.Term.{values_of, IsTerm}
+use Rattle.fzn_values.specs.Circuit.{IsCircuit}
+use Rattle.fzn_values.specs.Entries.{IsIndex, entry_at}
+use Rattle.fzn_values.specs.Term.{values_of, IsTerm}
 use Rattle.fzn_meaning.specs.Meaning.{Meets, IsWellFormedConstraint}
-use Rattle.fzn_meaning.proofs.CallerLemmas.{circuit-no_cut}
+use Rattle.fzn_values.proofs.CallerLemmas.{circuit-no_cut}
 use Rattle.fzn_sets.specs.Terms.{term_at}
 use Rattle.fzn_rules.specs.Cut.{LeadsInto, IsClosed, IsCutMet}
 use Rattle.fzn_rules.proofs.PlacesLemmas.{index-length}

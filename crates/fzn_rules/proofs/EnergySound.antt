@@ -9,8 +9,8 @@ use Rattle.fzn_domain.specs.IntSet.{IntSet}
 use Rattle.fzn_domain.specs.Narrow.{IsWithin}
 use Rattle.fzn_meaning.specs.declared.constraint.Constraint.{Constraint}
 use Rattle.fzn_meaning.specs.declared.constraint.Constraint.TheVariants.{Cumulative}
-use Rattle.fzn_meaning.specs.Cumulative.{Task, runs_at, use_at, load_at}
-use Rattle.fzn_meaning.specs.Term.{term_value}
+use Rattle.fzn_values.specs.Cumulative.{Task, runs_at, use_at, load_at}
+use Rattle.fzn_values.specs.Term.{term_value}
 use Rattle.fzn_meaning.specs.Meaning.{Meets}
 use Rattle.fzn_rules.specs.declared.task.TaskTerms.{TaskTerms}
 use Rattle.fzn_sets.specs.Terms.{least_value, greatest_value}

@@ -6,14 +6,14 @@ use Rattle.std.proofs.lemmas.List.{get_or_default, get_or-take, get_or-drop}
 use Rattle.std.proofs.Math.ListN.{get_or-map}
 use Rattle.fzn_domain.specs.IntSet.{IntSet}
 use Rattle.fzn_domain.specs.Narrow.{IsWithin}
-use Rattle.fzn_meaning.specs.declared.term.Term.{Term}
-use Rattle.fzn_meaning.specs.declared.term.Term.TheVariants.{Constant}
+use Rattle.fzn_values.specs.declared.term.Term.{Term}
+use Rattle.fzn_values.specs.declared.term.Term.TheVariants.{Constant}
 use Rattle.fzn_meaning.specs.declared.constraint.Constraint.{Constraint}
 use Rattle.fzn_meaning.specs.declared.constraint.Constraint.TheVariants.{Table, Cumulative, Circuit, Inverse}
-use Rattle.fzn_meaning.specs.Entries.{IsIndex}
-use Rattle.fzn_meaning.specs.Table.{IsTable}
-use Rattle.fzn_meaning.specs.Cumulative.{NoneNegative}
-use Rattle.fzn_meaning.specs.Term.{term_value, values_of, IsTerm}
+use Rattle.fzn_values.specs.Entries.{IsIndex}
+use Rattle.fzn_values.specs.Table.{IsTable}
+use Rattle.fzn_values.specs.Cumulative.{NoneNegative}
+use Rattle.fzn_values.specs.Term.{term_value, values_of, IsTerm}
 use Rattle.fzn_meaning.specs.Meaning.{Meets, IsWellFormedConstraint}
 use Rattle.fzn_rules.specs.GlobalRows.{AreRowsOut, HasNoIndex, IsBelowZero, IsGlobalRowsMet}
 use Rattle.fzn_sets.proofs.CallerLemmas.{MayBe-term_value, length-values_of, term_between}

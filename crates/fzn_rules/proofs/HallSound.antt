@@ -5,13 +5,13 @@ use Rattle.std.proofs.lemmas.Int.{ints}
 use Rattle.std.proofs.lemmas.List.Sums.{sum_by-cons}
 use Rattle.fzn_domain.specs.IntSet.{IntSet}
 use Rattle.fzn_domain.specs.Narrow.{IsWithin}
-use Rattle.fzn_meaning.specs.declared.term.Term.{Term}
+use Rattle.fzn_values.specs.declared.term.Term.{Term}
 use Rattle.fzn_meaning.specs.declared.constraint.Constraint.{Constraint}
 use Rattle.fzn_meaning.specs.declared.constraint.Constraint.TheVariants.{AllDifferent, Circuit, Inverse}
-use Rattle.fzn_meaning.specs.Term.{term_value, values_of}
-use Rattle.fzn_meaning.specs.AllDifferent.{IsAllDifferent}
+use Rattle.fzn_values.specs.Term.{term_value, values_of}
+use Rattle.fzn_values.specs.AllDifferent.{IsAllDifferent}
 use Rattle.fzn_meaning.specs.Meaning.{Meets, IsWellFormedConstraint}
-use Rattle.fzn_meaning.proofs.CallerLemmas.{circuit-different}
+use Rattle.fzn_values.proofs.CallerLemmas.{circuit-different}
 use Rattle.fzn_sets.specs.Terms.{least_value, greatest_value}
 use Rattle.fzn_rules.specs.Hall.{lies_within, HasExcess, IsHallMet}
 use Rattle.fzn_rules.proofs.PlacesLemmas.{is_from_to, different-from_to, inverse-different, inverse-flip}

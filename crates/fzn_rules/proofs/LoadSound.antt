@@ -5,11 +5,11 @@ use Rattle.std.specs.Int.{int_max}
 use Rattle.std.proofs.lemmas.Int.{ints}
 use Rattle.fzn_domain.specs.IntSet.{IntSet}
 use Rattle.fzn_domain.specs.Narrow.{IsWithin}
-use Rattle.fzn_meaning.specs.declared.term.Term.{Term}
+use Rattle.fzn_values.specs.declared.term.Term.{Term}
 use Rattle.fzn_meaning.specs.declared.constraint.Constraint.{Constraint}
 use Rattle.fzn_meaning.specs.declared.constraint.Constraint.TheVariants.{Cumulative}
-use Rattle.fzn_meaning.specs.Cumulative.{tasks, use_at, load_at, IsCumulative}
-use Rattle.fzn_meaning.specs.Term.{term_value, values_of}
+use Rattle.fzn_values.specs.Cumulative.{tasks, use_at, load_at, IsCumulative}
+use Rattle.fzn_values.specs.Term.{term_value, values_of}
 use Rattle.fzn_meaning.specs.Meaning.{Meets}
 use Rattle.fzn_rules.specs.declared.task.TaskTerms.{TaskTerms}
 use Rattle.fzn_sets.specs.Terms.{least_value, greatest_value}

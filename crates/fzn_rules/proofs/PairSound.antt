@@ -3,12 +3,12 @@ use Rattle.std.proofs.Common.{◌≡◌, List, length, sym, ◌∙◌, subst, in
 use Rattle.std.specs.List.{All}
 use Rattle.fzn_domain.specs.IntSet.{IntSet}
 use Rattle.fzn_domain.specs.Narrow.{IsWithin}
-use Rattle.fzn_meaning.specs.declared.term.Term.{Term}
+use Rattle.fzn_values.specs.declared.term.Term.{Term}
 use Rattle.fzn_meaning.specs.declared.constraint.Constraint.{Constraint}
 use Rattle.fzn_meaning.specs.declared.constraint.Constraint.TheVariants.{Inverse}
-use Rattle.fzn_meaning.specs.Entries.{IsIndex, entry_at}
-use Rattle.fzn_meaning.specs.Inverse.{IsInverse}
-use Rattle.fzn_meaning.specs.Term.{values_of, IsTerm}
+use Rattle.fzn_values.specs.Entries.{IsIndex, entry_at}
+use Rattle.fzn_values.specs.Inverse.{IsInverse}
+use Rattle.fzn_values.specs.Term.{values_of, IsTerm}
 use Rattle.fzn_meaning.specs.Meaning.{Meets, IsWellFormedConstraint}
 use Rattle.fzn_sets.specs.Terms.{MayBe, term_at}
 use Rattle.fzn_rules.specs.Pair.{IsBroken, IsPairMet}

@@ -4,10 +4,10 @@ use Rattle.std.specs.List.{Contains, count_by}
 use Rattle.std.proofs.lemmas.Int.{ints}
 use Rattle.std.proofs.lemmas.List.{get_or_default}
 use Rattle.std.proofs.lemmas.List.Sums.{sum_by-cons}
-use Rattle.fzn_meaning.specs.AllDifferent.{IsAllDifferent}
-use Rattle.fzn_meaning.specs.Entries.{IsIndex, entry_at}
-use Rattle.fzn_meaning.specs.Inverse.{IsInverse}
-use Rattle.fzn_meaning.proofs.CallerLemmas.{is_inside, places_inside, places_inside-length, places_inside-least, places_inside-most, places_of-Contains, places_of-different}
+use Rattle.fzn_values.specs.AllDifferent.{IsAllDifferent}
+use Rattle.fzn_values.specs.Entries.{IsIndex, entry_at}
+use Rattle.fzn_values.specs.Inverse.{IsInverse}
+use Rattle.fzn_values.proofs.CallerLemmas.{is_inside, places_inside, places_inside-length, places_inside-least, places_inside-most, places_of-Contains, places_of-different}
 
 -- ---- pigeonhole
 

@@ -4,11 +4,11 @@ use Rattle.std.proofs.lemmas.Bool.{cases_Bool, cases_lt}
 use Rattle.std.proofs.lemmas.List.{get_or-take, get_or-drop}
 use Rattle.fzn_domain.specs.IntSet.{IntSet}
 use Rattle.fzn_domain.specs.Narrow.{IsWithin}
-use Rattle.fzn_meaning.specs.declared.term.Term.TheVariants.{Constant}
+use Rattle.fzn_values.specs.declared.term.Term.TheVariants.{Constant}
 use Rattle.fzn_meaning.specs.declared.row.TablePart.{TablePart}
-use Rattle.fzn_meaning.specs.Term.{values_of}
+use Rattle.fzn_values.specs.Term.{values_of}
 use Rattle.fzn_meaning.specs.Separable.{begins_with, row_weight, IsTablePart}
-use Rattle.fzn_meaning.proofs.CallerLemmas.{get_or-values_of}
+use Rattle.fzn_values.proofs.CallerLemmas.{get_or-values_of}
 use Rattle.fzn_meaning.proofs.TableWeightLemmas.{begins-take}
 use Rattle.fzn_sets.proofs.CallerLemmas.{MayBe-term_value, length-values_of}
 use Rattle.fzn_rules.specs.Separable.{IsLeastOf, IsTableWeightIn}

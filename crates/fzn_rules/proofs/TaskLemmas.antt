@@ -4,9 +4,9 @@ use Rattle.std.specs.List.{AllByRecursion}
 use Rattle.std.proofs.lemmas.Int.{ints}
 use Rattle.std.proofs.lemmas.List.{take_all}
 use Rattle.std.proofs.lemmas.List.Elements.{recursion_from_All}
-use Rattle.fzn_meaning.specs.declared.term.Term.{Term}
-use Rattle.fzn_meaning.specs.Cumulative.{Task, tasks, IsCumulative}
-use Rattle.fzn_meaning.specs.Term.{term_value, values_of}
+use Rattle.fzn_values.specs.declared.term.Term.{Term}
+use Rattle.fzn_values.specs.Cumulative.{Task, tasks, IsCumulative}
+use Rattle.fzn_values.specs.Term.{term_value, values_of}
 use Rattle.fzn_rules.specs.declared.task.TaskTerms.{TaskTerms}
 use Rattle.fzn_rules.specs.Tasks.{task_terms, sum_over}
 

@@ -3,10 +3,10 @@ use Rattle.std.specs.Prelude.{◌<◌, ℤ, List, length}
 use Rattle.std.specs.List.{All, Contains}
 use Rattle.fzn_domain.specs.IntSet.{IntSet}
 use Rattle.fzn_domain.specs.Ascending.{IsAscending}
-use Rattle.fzn_meaning.specs.declared.term.Term.{Term}
+use Rattle.fzn_values.specs.declared.term.Term.{Term}
 use Rattle.fzn_meaning.specs.declared.constraint.Constraint.{Constraint}
 use Rattle.fzn_meaning.specs.declared.constraint.Constraint.TheVariants.{Circuit}
-use Rattle.fzn_meaning.specs.Entries.{IsIndex}
+use Rattle.fzn_values.specs.Entries.{IsIndex}
 use Rattle.fzn_sets.specs.Terms.{MayBe, term_at}
 
 -- each value of the term is one of the places

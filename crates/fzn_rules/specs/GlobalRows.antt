@@ -2,11 +2,11 @@
 use Rattle.std.specs.Prelude.{◌⊎◌, ℕ, ◌+◌, ◌*◌, ◌<◌, ◌≤◌, ℤ, pos, ◌<ℤ◌, List, length, slice_index_or}
 use Rattle.std.specs.List.{Any}
 use Rattle.fzn_domain.specs.IntSet.{IntSet}
-use Rattle.fzn_meaning.specs.declared.term.Term.{Term}
-use Rattle.fzn_meaning.specs.declared.term.Term.TheVariants.{Constant}
+use Rattle.fzn_values.specs.declared.term.Term.{Term}
+use Rattle.fzn_values.specs.declared.term.Term.TheVariants.{Constant}
 use Rattle.fzn_meaning.specs.declared.constraint.Constraint.{Constraint}
 use Rattle.fzn_meaning.specs.declared.constraint.Constraint.TheVariants.{Table, Cumulative, Circuit, Inverse}
-use Rattle.fzn_meaning.specs.Entries.{IsIndex}
+use Rattle.fzn_values.specs.Entries.{IsIndex}
 use Rattle.fzn_sets.specs.Terms.{greatest_value, MayBe}
 
 -- each value of row r, counted from 0, is in its place's set

@@ -2,7 +2,7 @@
 use Rattle.std.specs.Prelude.{◌⊎◌, Bool, ◌&&◌, ℤ, pos, ◌+ℤ◌, ◌-ℤ◌, ◌≤ℤ◌, ◌<ℤ◌, int_le, List}
 use Rattle.std.specs.List.{count_by}
 use Rattle.fzn_domain.specs.IntSet.{IntSet}
-use Rattle.fzn_meaning.specs.declared.term.Term.{Term}
+use Rattle.fzn_values.specs.declared.term.Term.{Term}
 use Rattle.fzn_meaning.specs.declared.constraint.Constraint.{Constraint}
 use Rattle.fzn_meaning.specs.declared.constraint.Constraint.TheVariants.{AllDifferent, Circuit, Inverse}
 use Rattle.fzn_sets.specs.Terms.{least_value, greatest_value}

@@ -1,10 +1,10 @@
 -- The rule `pair`: one list has a pair that the other cannot have.
 use Rattle.std.specs.Prelude.{◌⊎◌, ℤ, List, length}
 use Rattle.fzn_domain.specs.IntSet.{IntSet}
-use Rattle.fzn_meaning.specs.declared.term.Term.{Term}
+use Rattle.fzn_values.specs.declared.term.Term.{Term}
 use Rattle.fzn_meaning.specs.declared.constraint.Constraint.{Constraint}
 use Rattle.fzn_meaning.specs.declared.constraint.Constraint.TheVariants.{Inverse}
-use Rattle.fzn_meaning.specs.Entries.{IsIndex}
+use Rattle.fzn_values.specs.Entries.{IsIndex}
 use Rattle.fzn_sets.specs.Terms.{IsFixedTo, MayBe, term_at}
 
 -- one list has the value j at i, and the other cannot have i at j

@@ -3,16 +3,17 @@ ghost use Rattle.std.specs.Prelude.{◌↔◌, ◌≤ℤ◌, IsTrue, length};
 ghost use Rattle.std.specs.List.{All};
 ghost use Rattle.fzn_domain.specs.Ascending.{IsAscending};
 ghost use Rattle.fzn_domain.specs.Limits.{IsInLimits};
-ghost use Rattle.fzn_meaning.specs.Entries.{IsIndex};
-ghost use Rattle.fzn_meaning.specs.Term.{IsTerm};
+ghost use Rattle.fzn_values.specs.Entries.{IsIndex};
+ghost use Rattle.fzn_values.specs.Term.{IsTerm};
 ghost use Rattle.fzn_meaning.specs.Meaning.{IsWellFormedConstraint};
 ghost use Rattle.fzn_rules.specs.Cut.{LeadsInto, IsClosed, IsCutMet};
 ghost use Rattle.fzn_rules.specs.Runs.{HasAll, HasRun};
 ghost use Rattle.fzn_sets.specs.Terms.{term_at};
 
 use fzn_domain::{Domain, place_of};
-use fzn_meaning::{Constraint, Term};
+use fzn_meaning::Constraint;
 use fzn_sets::{Sets, is_index, term_at};
+use fzn_values::Term;
 
 /// Whether the places, in rising order, are some of a circuit's places, counted from 1, but not all, and lead only to one another. It looks
 /// for each run of values of their successors once. `false` for any other constraint.

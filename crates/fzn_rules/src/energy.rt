@@ -4,15 +4,16 @@ ghost use Rattle.std.specs.List.{All};
 ghost use Rattle.fzn_domain.specs.Limits.{IsInLimits, IsSmall};
 ghost use Rattle.fzn_domain.specs.Narrow.{is_some_empty};
 ghost use Rattle.fzn_list.specs.Limits.{longest};
-ghost use Rattle.fzn_meaning.specs.Term.{IsTerm};
+ghost use Rattle.fzn_values.specs.Term.{IsTerm};
 ghost use Rattle.fzn_meaning.specs.Meaning.{IsWellFormedConstraint};
 ghost use Rattle.fzn_sets.specs.Terms.{greatest_value};
 ghost use Rattle.fzn_rules.specs.Tasks.{task_terms, sum_over, IsTask};
 ghost use Rattle.fzn_rules.specs.Energy.{overlap, least_overlap, least_energy, HasOverload, IsEnergyMet};
 
 use crate::task::{TaskTerms, least_use};
-use fzn_meaning::{Constraint, Term};
+use fzn_meaning::Constraint;
 use fzn_sets::{Sets, greatest_value, least_value};
+use fzn_values::Term;
 
 /// Whether the first time is before the second, and the tasks of a cumulative, wherever they start, use more between the two than the
 /// capacity gives. It looks at each task once. No set may be empty. `false` for any other constraint.

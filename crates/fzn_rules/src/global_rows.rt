@@ -2,12 +2,13 @@
 ghost use Rattle.std.specs.Prelude.{◌≡◌, ◌↔◌, ◌+◌, ◌*◌, ◌<◌, ◌≤◌, IsTrue, false, length};
 ghost use Rattle.std.specs.List.{All, Any};
 ghost use Rattle.fzn_domain.specs.Narrow.{is_some_empty};
-ghost use Rattle.fzn_meaning.specs.Term.{IsTerm, numbers_in};
+ghost use Rattle.fzn_values.specs.Term.{IsTerm, numbers_in};
 ghost use Rattle.fzn_meaning.specs.Meaning.{IsWellFormedConstraint};
 ghost use Rattle.fzn_rules.specs.GlobalRows.{IsRowOut, AreRowsOut, HasNoIndex, IsBelowZero, HasAmountBelowZero, IsGlobalRowsMet};
 
-use fzn_meaning::{Constraint, Term};
+use fzn_meaning::Constraint;
 use fzn_sets::{Sets, greatest_value, is_index, may_be};
+use fzn_values::Term;
 
 /// Whether the sets leave no row of a table, no index for an entry of a circuit or of inverse lists, or only amounts below 0. It looks
 /// at each number of a table once, and at each term of the others. No set may be empty. `false` for any other constraint.

@@ -2,12 +2,13 @@
 ghost use Rattle.std.specs.Prelude.{◌≡◌, ◌↔◌, IsTrue, false, length};
 ghost use Rattle.std.specs.List.{All, count_by};
 ghost use Rattle.fzn_domain.specs.Narrow.{is_some_empty};
-ghost use Rattle.fzn_meaning.specs.Term.{IsTerm};
+ghost use Rattle.fzn_values.specs.Term.{IsTerm};
 ghost use Rattle.fzn_meaning.specs.Meaning.{IsWellFormedConstraint};
 ghost use Rattle.fzn_rules.specs.Hall.{lies_within, HasExcess, IsHallMet};
 
-use fzn_meaning::{Constraint, Term};
+use fzn_meaning::Constraint;
 use fzn_sets::{Sets, greatest_value, least_value};
+use fzn_values::Term;
 
 /// Whether more places than there are numbers from low to high have their sets within them: places of an all different, of a circuit, or of
 /// one list of an inverse. It looks at each place once. No set may be empty. `false` for any other constraint.

@@ -4,15 +4,16 @@ ghost use Rattle.std.specs.List.{All};
 ghost use Rattle.fzn_domain.specs.Narrow.{is_some_empty};
 ghost use Rattle.fzn_list.specs.Limits.{longest};
 ghost use Rattle.fzn_domain.specs.declared.domain.TheConstants.{GREATEST_VALUE};
-ghost use Rattle.fzn_meaning.specs.Term.{IsTerm};
+ghost use Rattle.fzn_values.specs.Term.{IsTerm};
 ghost use Rattle.fzn_meaning.specs.Meaning.{IsWellFormedConstraint};
 ghost use Rattle.fzn_sets.specs.Terms.{least_value};
 ghost use Rattle.fzn_rules.specs.Tasks.{task_terms, sum_over, IsTask};
 ghost use Rattle.fzn_rules.specs.Load.{surely_runs, least_use_at, IsLoadMet};
 
 use crate::task::{TaskTerms, least_use};
-use fzn_meaning::{Constraint, Term};
+use fzn_meaning::Constraint;
 use fzn_sets::{Sets, greatest_value, least_value};
+use fzn_values::Term;
 
 /// Whether the tasks of a cumulative that run at the time, wherever they start, use more than the capacity. It looks at each task once. No
 /// set may be empty. `false` for any other constraint.

@@ -2,13 +2,14 @@
 ghost use Rattle.std.specs.Prelude.{◌≡◌, ◌↔◌, IsTrue, false, length};
 ghost use Rattle.std.specs.List.{All};
 ghost use Rattle.fzn_domain.specs.Narrow.{is_some_empty};
-ghost use Rattle.fzn_meaning.specs.Entries.{IsIndex};
-ghost use Rattle.fzn_meaning.specs.Term.{IsTerm};
+ghost use Rattle.fzn_values.specs.Entries.{IsIndex};
+ghost use Rattle.fzn_values.specs.Term.{IsTerm};
 ghost use Rattle.fzn_meaning.specs.Meaning.{IsWellFormedConstraint};
 ghost use Rattle.fzn_rules.specs.Pair.{HasBrokenPair, IsBroken, IsPairMet};
 
-use fzn_meaning::{Constraint, Term};
+use fzn_meaning::Constraint;
 use fzn_sets::{Sets, is_fixed_to, is_index, may_be, term_at};
+use fzn_values::Term;
 
 /// Whether one list of an inverse has the second number at the first, both counted from 1, and the other cannot have the first at the
 /// second, or the other way round. No set may be empty. `false` for any other constraint.

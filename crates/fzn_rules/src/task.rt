@@ -4,8 +4,8 @@ ghost use Rattle.fzn_domain.specs.Narrow.{is_some_empty};
 ghost use Rattle.fzn_domain.specs.declared.domain.TheConstants.{GREATEST_VALUE};
 ghost use Rattle.fzn_rules.specs.Tasks.{least_use, IsTask};
 
-use fzn_meaning::Term;
 use fzn_sets::{Sets, least_value};
+use fzn_values::Term;
 
 /// The start, the duration and the uses of a task.
 #[derive(Clone, Copy)]

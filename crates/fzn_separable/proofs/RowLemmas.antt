@@ -8,10 +8,10 @@ use Rattle.fzn_meaning.specs.declared.row.VariablePart.{VariablePart}
 use Rattle.fzn_meaning.specs.declared.row.Part.{Part}
 use Rattle.fzn_meaning.specs.declared.row.Part.TheVariants as parts
 use Rattle.fzn_meaning.specs.declared.row.Row.{Row}
-use Rattle.fzn_meaning.specs.declared.term.Term.TheVariants.{Variable}
+use Rattle.fzn_values.specs.declared.term.Term.TheVariants.{Variable}
 use Rattle.fzn_meaning.specs.declared.constraint.Constraint.{Constraint}
 use Rattle.fzn_meaning.specs.declared.constraint.Constraint.TheVariants as constraint
-use Rattle.fzn_meaning.specs.Term.{IsTerm}
+use Rattle.fzn_values.specs.Term.{IsTerm}
 use Rattle.fzn_meaning.specs.Separable.{weight_at, weight_of, total_weight, IsVariablePart, IsSeparableRow}
 use Rattle.fzn_meaning.specs.Meaning.{Meets}
 use Rattle.fzn_builtin_rules.specs.Form.{form_of}

@@ -13,9 +13,10 @@ use crate::copy::copied_row;
 use crate::search::find_all;
 use fzn_domain::Memory;
 use fzn_levels::{Pass, least_value_weight};
-use fzn_meaning::{Part, Row, TablePart, Term, Var, VariablePart};
+use fzn_meaning::{Part, Row, TablePart, Var, VariablePart};
 use fzn_propagator::{Cost, Event, Findings, Propagator, Subscriptions};
 use fzn_trail::Trail;
+use fzn_values::Term;
 use std::alloc::{AllocError, Global};
 
 /// What reasons for one row.

@@ -1,7 +1,7 @@
 // The values of a part that are barred, or weigh more than what the others leave.
 ghost use Rattle.std.specs.Prelude.{◌≡◌, ◌<◌, ℤ, pos, ◌≤ℤ◌, ◌<ℤ◌, length, slice_index_or, Some, None};
 ghost use Rattle.fzn_domain.specs.Limits.{IsInLimits};
-ghost use Rattle.fzn_meaning.specs.declared.term.Term.TheVariants.{Variable};
+ghost use Rattle.fzn_values.specs.declared.term.Term.TheVariants.{Variable};
 ghost use Rattle.fzn_meaning.specs.declared.row.Part.TheVariants as parts;
 ghost use Rattle.fzn_meaning.specs.Separable.{weight_at, IsVariablePart};
 ghost use Rattle.fzn_terms.specs.Denied.{IsNear};
@@ -11,10 +11,11 @@ ghost use Rattle.fzn_separable.specs.Passes.{AreFoundOfRow, AreLeastsOf, IsPartA
 use fzn_domain::{GREATEST_VALUE, LEAST_VALUE, Memory};
 use fzn_levels::{Pass, are_enough, entry_weight, explain_levels, levels_of, narrowed, value_at};
 use fzn_list::Items;
-use fzn_meaning::{Listed, Part, Term, VariablePart, weight_at};
+use fzn_meaning::{Listed, Part, VariablePart, weight_at};
 use fzn_propagator::Findings;
 use fzn_rules::Rule;
 use fzn_terms::{Claim, force, greatest_of, least_of};
+use fzn_values::Term;
 
 /// Finds the values of the part at an index that are barred, or weigh more than the least weights of the others leave, which are the least
 /// ones without its own. Of a table it finds none.

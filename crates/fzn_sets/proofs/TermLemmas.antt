@@ -5,11 +5,11 @@ use Rattle.std.proofs.lemmas.Int.{ints}
 use Rattle.std.proofs.Math.ListN.{get_or-map}
 use Rattle.fzn_domain.specs.IntSet.{IntSet}
 use Rattle.fzn_domain.specs.Narrow.{IsWithin}
-use Rattle.fzn_meaning.specs.declared.term.Term.{Term}
-use Rattle.fzn_meaning.specs.declared.term.Term.TheVariants.{Constant, Variable}
-use Rattle.fzn_meaning.specs.Entries.{IsIndex, entry_at}
-use Rattle.fzn_meaning.specs.Term.{term_value, values_of, IsTerm}
-pub use Rattle.fzn_meaning.proofs.CallerLemmas.{length-values_of}
+use Rattle.fzn_values.specs.declared.term.Term.{Term}
+use Rattle.fzn_values.specs.declared.term.Term.TheVariants.{Constant, Variable}
+use Rattle.fzn_values.specs.Entries.{IsIndex, entry_at}
+use Rattle.fzn_values.specs.Term.{term_value, values_of, IsTerm}
+pub use Rattle.fzn_values.proofs.CallerLemmas.{length-values_of}
 use Rattle.fzn_sets.specs.Terms.{MayBe, term_at}
 
 -- the value of a term is in its set

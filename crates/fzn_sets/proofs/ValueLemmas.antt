@@ -12,9 +12,9 @@ use Rattle.fzn_domain.specs.declared.literal.VarId.{VarId}
 use Rattle.fzn_domain.specs.IntSet.{IntSet, size, no_values, least, greatest, least_in, greatest_in}
 use Rattle.fzn_domain.specs.Narrow.{IsVariable, IsWithin, NoneEmpty, set_of, value_of, is_some_empty}
 use Rattle.fzn_domain.proofs.SetLemmas.{contains-no_values, contains-least, contains-greatest, member_of_size, least_le, le_greatest}
-use Rattle.fzn_meaning.specs.declared.term.Term.{Term}
-use Rattle.fzn_meaning.specs.declared.term.Term.TheVariants.{Constant, Variable}
-use Rattle.fzn_meaning.specs.Term.{term_value, IsTerm}
+use Rattle.fzn_values.specs.declared.term.Term.{Term}
+use Rattle.fzn_values.specs.declared.term.Term.TheVariants.{Constant, Variable}
+use Rattle.fzn_values.specs.Term.{term_value, IsTerm}
 use Rattle.fzn_sets.specs.Terms.{least_value, greatest_value, IsFixedTo, MayBe}
 
 -- ---- sets of which none is empty

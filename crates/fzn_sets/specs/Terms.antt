@@ -2,8 +2,8 @@
 use Rattle.std.specs.Prelude.{◌≡◌, ◌-◌, true, ℤ, pos, negsuc, List, slice_index_or}
 use Rattle.fzn_domain.specs.IntSet.{IntSet, contains, least, greatest}
 use Rattle.fzn_domain.specs.Narrow.{set_of}
-use Rattle.fzn_meaning.specs.declared.term.Term.{Term}
-use Rattle.fzn_meaning.specs.declared.term.Term.TheVariants.{Constant, Variable}
+use Rattle.fzn_values.specs.declared.term.Term.{Term}
+use Rattle.fzn_values.specs.declared.term.Term.TheVariants.{Constant, Variable}
 
 -- the value is in the set of the term; a constant has its own one value
 abbrev pub MayBe : List IntSet → Term → ℤ → Type 0

@@ -3,12 +3,12 @@ ghost use Rattle.std.specs.Prelude.{◌≡◌, ◌↔◌, IsTrue, false, length,
 ghost use Rattle.std.specs.List.{All};
 ghost use Rattle.fzn_domain.specs.Limits.{IsInLimits};
 ghost use Rattle.fzn_domain.specs.Narrow.{is_some_empty};
-ghost use Rattle.fzn_meaning.specs.Entries.{IsIndex};
-ghost use Rattle.fzn_meaning.specs.Term.{IsTerm};
+ghost use Rattle.fzn_values.specs.Entries.{IsIndex};
+ghost use Rattle.fzn_values.specs.Term.{IsTerm};
 ghost use Rattle.fzn_sets.specs.Terms.{MayBe, least_value, greatest_value, IsFixedTo, term_at};
 
 use crate::sets::Sets;
-use fzn_meaning::Term;
+use fzn_values::Term;
 
 /// Whether the value is in the set of the term.
 pub fn may_be(sets: &Sets, term: Term, value: &i64) -> bool

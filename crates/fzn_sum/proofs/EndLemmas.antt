@@ -4,7 +4,7 @@ use Rattle.std.specs.Int.{w128}
 use Rattle.std.proofs.lemmas.Int.{ints, to_z-of_z}
 use Rattle.std.proofs.lemmas.List.Elements.{All-map, All-more, All-weaker}
 use Rattle.fzn_domain.specs.IntSet.{IntSet}
-use Rattle.fzn_meaning.specs.declared.term.Place.{Place}
+use Rattle.fzn_values.specs.declared.term.Place.{Place}
 use Rattle.fzn_builtin_rules.specs.Linear.{low_product, high_product, least_sum}
 use Rattle.fzn_builtin_rules.specs.Ends.{AreProducts}
 use Rattle.fzn_builtin_rules.specs.declared.ends.Ends.{Ends}

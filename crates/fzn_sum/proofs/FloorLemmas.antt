@@ -6,9 +6,9 @@ use Rattle.std.proofs.lemmas.List.{get_or_default, get_or_append_left}
 use Rattle.std.proofs.lemmas.List.Elements.{All-nil, All-push, All-get_or}
 use Rattle.fzn_domain.specs.declared.literal.Lit.{Lit}
 use Rattle.fzn_domain.specs.declared.literal.Op.TheVariants as op
-use Rattle.fzn_meaning.specs.declared.term.Term.TheVariants.{Constant}
-use Rattle.fzn_meaning.specs.declared.term.Place.{Place}
-use Rattle.fzn_meaning.specs.Term.{IsPlace}
+use Rattle.fzn_values.specs.declared.term.Term.TheVariants.{Constant}
+use Rattle.fzn_values.specs.declared.term.Place.{Place}
+use Rattle.fzn_values.specs.Term.{IsPlace}
 use Rattle.fzn_trail.specs.Levels.{Levels}
 use Rattle.fzn_propagator.proofs.CallerLemmas.{false_of_none, false_push}
 use Rattle.fzn_sum.specs.declared.at_most.PlaceFloor.{PlaceFloor}

@@ -5,8 +5,8 @@ use Rattle.std.proofs.lemmas.List.{length-map}
 use Rattle.std.proofs.lemmas.List.Elements.{All-map, All-weaker}
 use Rattle.std.proofs.Math.IntN.{zero-*ℤ, pos-*ℤ-pos, pos-*ℤ-negsuc, negsuc-*ℤ-pos, negsuc-*ℤ-negsuc}
 use Rattle.fzn_domain.specs.IntSet.{IntSet}
-use Rattle.fzn_meaning.specs.declared.term.Place.{Place}
-use Rattle.fzn_meaning.specs.Term.{term_value, IsPlace, product_at, sum_at, total_by}
+use Rattle.fzn_values.specs.declared.term.Place.{Place}
+use Rattle.fzn_values.specs.Term.{term_value, IsPlace, product_at, sum_at, total_by}
 use Rattle.fzn_sets.specs.Terms.{least_value, greatest_value}
 use Rattle.fzn_builtin_rules.specs.Linear.{low_product, high_product, least_sum, greatest_sum}
 use Rattle.fzn_sum.specs.Opposite.{opposite_place, opposites}

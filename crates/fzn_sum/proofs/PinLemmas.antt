@@ -12,11 +12,11 @@ use Rattle.fzn_domain.specs.IntSet.{IntSet, contains, least_in, greatest_in, lea
 use Rattle.fzn_domain.specs.Limits.{IsInLimits}
 use Rattle.fzn_domain.specs.Narrow.{set_of}
 use Rattle.fzn_domain.proofs.SetLemmas.{least_le, le_greatest}
-use Rattle.fzn_meaning.specs.declared.term.Term.{Term}
-use Rattle.fzn_meaning.specs.declared.term.Term.TheVariants.{Constant, Variable}
-use Rattle.fzn_meaning.specs.declared.term.Place.{Place}
+use Rattle.fzn_values.specs.declared.term.Term.{Term}
+use Rattle.fzn_values.specs.declared.term.Term.TheVariants.{Constant, Variable}
+use Rattle.fzn_values.specs.declared.term.Place.{Place}
 use Rattle.fzn_meaning.specs.declared.relation.Comparison.TheVariants.{NotEqual}
-use Rattle.fzn_meaning.specs.Term.{IsPlace, total_by}
+use Rattle.fzn_values.specs.Term.{IsPlace, total_by}
 use Rattle.fzn_sets.specs.Terms.{least_value, greatest_value}
 use Rattle.fzn_builtin_rules.specs.Linear.{low_end, high_end, low_product, high_product, least_sum}
 use Rattle.fzn_trail.specs.Levels.{Levels}

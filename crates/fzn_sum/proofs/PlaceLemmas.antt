@@ -7,9 +7,9 @@ use Rattle.fzn_domain.specs.IntSet.{IntSet, contains, size, least, greatest}
 use Rattle.fzn_domain.specs.Limits.{IsInLimits}
 use Rattle.fzn_domain.specs.Narrow.{set_of}
 use Rattle.fzn_domain.proofs.SetLemmas.{member_of_size, size_above_zero, least_le, le_greatest, impossible_when, possible_when}
-use Rattle.fzn_meaning.specs.declared.term.Term.{Term}
-use Rattle.fzn_meaning.specs.declared.term.Term.TheVariants.{Constant, Variable}
-use Rattle.fzn_meaning.specs.declared.term.Place.{Place}
+use Rattle.fzn_values.specs.declared.term.Term.{Term}
+use Rattle.fzn_values.specs.declared.term.Term.TheVariants.{Constant, Variable}
+use Rattle.fzn_values.specs.declared.term.Place.{Place}
 use Rattle.fzn_sets.specs.Terms.{least_value, greatest_value}
 use Rattle.fzn_builtin_rules.specs.Linear.{low_product, high_product}
 use Rattle.fzn_builtin_rules.proofs.CallerLemmas.{low_up, low_down, high_up, high_down}

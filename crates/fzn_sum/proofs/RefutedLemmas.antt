@@ -1,7 +1,7 @@
 -- What a clause rules out, a longer one does too; a conflict is a refutation, and so is a refutation of the opposite inequality.
 use Rattle.std.proofs.Common.{◌≡◌, List, ◌++◌, get_or, subst, inl, inr, ℤ, pos, ◌-ℤ◌}
 use Rattle.fzn_domain.specs.declared.literal.Lit.{Lit}
-use Rattle.fzn_meaning.specs.declared.term.Place.{Place}
+use Rattle.fzn_values.specs.declared.term.Place.{Place}
 use Rattle.fzn_meaning.specs.declared.relation.Comparison.{Comparison}
 use Rattle.fzn_meaning.specs.declared.relation.Comparison.TheVariants.{AtMost, Equal, NotEqual}
 use Rattle.fzn_trail.specs.Levels.{Levels}

@@ -3,8 +3,8 @@ use Rattle.std.proofs.Common.{◌≡◌, ◌≢◌, ℕ, zero, suc, ◌<◌, Lis
 use Rattle.std.specs.List.{fold}
 use Rattle.std.proofs.lemmas.Int.{ints}
 use Rattle.std.proofs.lemmas.List.Elements.{All-head, All-tail}
-use Rattle.fzn_meaning.specs.declared.term.Place.{Place}
-use Rattle.fzn_meaning.specs.Term.{total_by}
+use Rattle.fzn_values.specs.declared.term.Place.{Place}
+use Rattle.fzn_values.specs.Term.{total_by}
 use Rattle.fzn_builtin_rules.proofs.CallerLemmas.{total_by-cons}
 
 from : (Place → ℤ) → ℤ → List Place → ℤ

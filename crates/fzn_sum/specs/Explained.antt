@@ -5,11 +5,11 @@ use Rattle.fzn_domain.specs.declared.literal.Lit.{Lit}
 use Rattle.fzn_domain.specs.Literal.{is_true_at}
 use Rattle.fzn_domain.specs.IntSet.{is_possible}
 use Rattle.fzn_domain.specs.Narrow.{can_fail, set_of}
-use Rattle.fzn_meaning.specs.declared.term.Term.TheVariants.{Variable}
-use Rattle.fzn_meaning.specs.declared.term.Place.{Place}
+use Rattle.fzn_values.specs.declared.term.Term.TheVariants.{Variable}
+use Rattle.fzn_values.specs.declared.term.Place.{Place}
 use Rattle.fzn_builtin_rules.specs.Linear.{low_product}
 use Rattle.fzn_trail.specs.Levels.{Levels}
-use Rattle.fzn_meaning.specs.Term.{total_by}
+use Rattle.fzn_values.specs.Term.{total_by}
 use Rattle.fzn_sum.specs.declared.at_most.Forced.{Forced}
 use Rattle.fzn_sum.specs.declared.at_most.PlaceFloor.{PlaceFloor}
 use Rattle.fzn_propagator.specs.Clause.{IsWritable, IsFalseClause}

@@ -1,8 +1,8 @@
 -- The places whose sum is the negative of another's.
 use Rattle.std.specs.Prelude.{◌≡◌, ℕ, ◌≤◌, pos, ◌-ℤ◌, List, map, length}
 use Rattle.std.specs.List.{All}
-use Rattle.fzn_meaning.specs.declared.term.Place.{Place}
-use Rattle.fzn_meaning.specs.Term.{IsPlace}
+use Rattle.fzn_values.specs.declared.term.Place.{Place}
+use Rattle.fzn_values.specs.Term.{IsPlace}
 
 -- the place gives the negative of what it gave
 abbrev pub opposite_place : Place → Place

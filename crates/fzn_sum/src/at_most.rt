@@ -2,8 +2,8 @@
 ghost use Rattle.std.specs.Prelude.{◌<◌, ◌≤ℤ◌, ◌+ℤ◌, pos, List, [], length, IfOk, IfSome, IfNone, slice_index_or};
 ghost use Rattle.std.specs.List.{All, AllWithin};
 ghost use Rattle.fzn_domain.specs.Narrow.{NoneEmpty};
-ghost use Rattle.fzn_meaning.specs.declared.term.Place.{Place};
-ghost use Rattle.fzn_meaning.specs.Term.{IsPlace};
+ghost use Rattle.fzn_values.specs.declared.term.Place.{Place};
+ghost use Rattle.fzn_values.specs.Term.{IsPlace};
 ghost use Rattle.fzn_builtin_rules.specs.Linear.{least_sum};
 ghost use Rattle.fzn_propagator.specs.Inference.{spread_of_place};
 ghost use Rattle.fzn_trail.specs.Levels.{Levels};
@@ -13,8 +13,8 @@ ghost use Rattle.fzn_meaning.specs.declared.relation.Comparison.TheVariants as s
 
 use fzn_domain::{Lit, Memory, Op};
 use fzn_list::Items;
-use fzn_meaning::{Place, Term};
 use fzn_trail::Trail;
+use fzn_values::{Place, Term};
 use std::alloc::Global;
 
 /// How many literals there is room for, at most, where a clause or a list is begun. It grows from there.

@@ -4,16 +4,16 @@ ghost use Rattle.std.specs.List.{All};
 ghost use Rattle.fzn_domain.specs.IntSet.{IntSet};
 ghost use Rattle.fzn_domain.specs.Limits.{IsInLimits};
 ghost use Rattle.fzn_domain.specs.Narrow.{NoneEmpty};
-ghost use Rattle.fzn_meaning.specs.declared.term.Place.{Place};
-ghost use Rattle.fzn_meaning.specs.Term.{IsTerm, IsPlace};
+ghost use Rattle.fzn_values.specs.declared.term.Place.{Place};
+ghost use Rattle.fzn_values.specs.Term.{IsTerm, IsPlace};
 ghost use Rattle.fzn_builtin_rules.specs.Linear.{low_end, low_product, least_sum};
 ghost use Rattle.fzn_sum.specs.Ends.{AreEnds};
 ghost use Rattle.fzn_sum.specs.Opposite.{opposites};
 
 use fzn_builtin_rules::{Ends, products_of};
-use fzn_meaning::Place;
 use fzn_terms::{greatest_of, least_of};
 use fzn_trail::Trail;
+use fzn_values::Place;
 
 /// The value at which the place gives least.
 pub fn low_end(trail: &Trail, place: Place) -> i64

@@ -2,7 +2,7 @@
 ghost use Rattle.std.specs.Prelude.{◌≡◌, ◌≤◌, ◌≤ℤ◌, ◌+ℤ◌, ◌-ℤ◌, pos, length, unsigned_abs, IfOk, IfSome, IfNone};
 ghost use Rattle.std.specs.List.{All};
 ghost use Rattle.fzn_domain.specs.Narrow.{NoneEmpty};
-ghost use Rattle.fzn_meaning.specs.Term.{IsPlace};
+ghost use Rattle.fzn_values.specs.Term.{IsPlace};
 ghost use Rattle.fzn_meaning.specs.declared.relation.Comparison.TheVariants.{AtMost, Equal};
 ghost use Rattle.fzn_builtin_rules.specs.Linear.{least_sum};
 ghost use Rattle.fzn_propagator.specs.Inference.{IsTight};
@@ -15,8 +15,8 @@ use crate::ends::{ends_of, turned};
 use fzn_builtin_rules::Ends;
 use fzn_domain::{Lit, Memory};
 use fzn_list::Items;
-use fzn_meaning::Place;
 use fzn_trail::Trail;
+use fzn_values::Place;
 use std::alloc::Global;
 
 /// A sum that is to be at most a bound, on a trail on which each present set has a value.

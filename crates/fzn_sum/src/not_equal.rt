@@ -3,8 +3,8 @@ ghost use Rattle.std.specs.Prelude.{◌≡◌, ◌≢◌, ◌↔◌, ◌<◌, �
 ghost use Rattle.std.specs.List.{All, AllWithin};
 ghost use Rattle.fzn_domain.specs.Limits.{IsInLimits};
 ghost use Rattle.fzn_domain.specs.Narrow.{NoneEmpty};
-ghost use Rattle.fzn_meaning.specs.declared.term.Place.{Place};
-ghost use Rattle.fzn_meaning.specs.Term.{IsPlace};
+ghost use Rattle.fzn_values.specs.declared.term.Place.{Place};
+ghost use Rattle.fzn_values.specs.Term.{IsPlace};
 ghost use Rattle.fzn_meaning.specs.declared.relation.Comparison.TheVariants.{NotEqual};
 ghost use Rattle.fzn_builtin_rules.specs.Linear.{low_product, least_sum};
 ghost use Rattle.fzn_propagator.specs.Barred.{GivesOne, AreSettledBut};
@@ -14,9 +14,9 @@ ghost use Rattle.fzn_sum.specs.Refuted.{IsSumConflict, IsRefutation, LeavesSome,
 use crate::ends::{least_sum, low_product};
 use fzn_domain::{Lit, Memory, Op};
 use fzn_list::Items;
-use fzn_meaning::{Place, Term};
 use fzn_terms::is_fixed;
 use fzn_trail::Trail;
+use fzn_values::{Place, Term};
 use std::alloc::Global;
 
 /// Whether the place gives one number, whichever value its term takes.

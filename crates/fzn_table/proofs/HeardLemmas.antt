@@ -1,6 +1,6 @@
 -- A table's propagator waits for each place.
 use Rattle.std.proofs.Common.{◌≡◌, List, ℤ, sym, subst}
-use Rattle.fzn_meaning.specs.declared.term.Term.{Term}
+use Rattle.fzn_values.specs.declared.term.Term.{Term}
 use Rattle.fzn_meaning.specs.declared.constraint.Constraint.{Constraint}
 use Rattle.fzn_meaning.specs.declared.constraint.Constraint.TheVariants.{Table}
 use Rattle.fzn_propagator.specs.declared.event.Event.{Event}

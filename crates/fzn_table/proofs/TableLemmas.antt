@@ -14,8 +14,8 @@ use Rattle.fzn_domain.specs.Limits.{IsInLimits, IsNearLimits}
 use Rattle.fzn_domain.specs.Literal.{compares}
 use Rattle.fzn_domain.specs.Narrow.{denied}
 use Rattle.fzn_domain.proofs.SetLemmas.{contains-no_values}
-use Rattle.fzn_meaning.specs.declared.term.Term.{Term}
-use Rattle.fzn_meaning.specs.Term.{number_in}
+use Rattle.fzn_values.specs.declared.term.Term.{Term}
+use Rattle.fzn_values.specs.Term.{number_in}
 use Rattle.fzn_rules.specs.GlobalRows.{IsRowOut}
 use Rattle.fzn_trail.specs.Levels.{Levels}
 use Rattle.fzn_propagator.specs.Clause.{IsJustifiedBy, Says, Keeps}

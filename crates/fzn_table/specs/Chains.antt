@@ -1,6 +1,6 @@
 -- Rows that have the same number at a place.
 use Rattle.std.specs.Prelude.{◌≡◌, ◌≢◌, ℕ, ◌<◌, ℤ, pos, List, length, slice_index_or}
-use Rattle.fzn_meaning.specs.declared.term.Term.{Term}
+use Rattle.fzn_values.specs.declared.term.Term.{Term}
 use Rattle.fzn_table.specs.Supports.{number_at, IsWhole}
 use Rattle.fzn_table.specs.declared.chains.Chains.{Chains}
 

@@ -5,7 +5,7 @@ use Rattle.fzn_domain.specs.declared.literal.Op.{Op}
 use Rattle.fzn_domain.specs.IntSet.{IntSet}
 use Rattle.fzn_meaning.specs.declared.constraint.Constraint.{Constraint}
 use Rattle.fzn_meaning.specs.declared.constraint.Constraint.TheVariants.{Table}
-use Rattle.fzn_meaning.specs.Term.{numbers_in}
+use Rattle.fzn_values.specs.Term.{numbers_in}
 use Rattle.fzn_sets.specs.Terms.{MayBe}
 use Rattle.fzn_rules.specs.GlobalRows.{IsRowOut}
 use Rattle.fzn_rules.specs.declared.rule.Rule.TheVariants.{Rows}

@@ -1,6 +1,6 @@
 // Rows that have the same number at a place, each with the next of them.
 ghost use Rattle.std.specs.Prelude.{◌≡◌, ◌≢◌, ℕ, ◌<◌, ◌≤◌, ℤ, List, length, slice_index_or, pos, IfOk, IfSome, IsTrue};
-ghost use Rattle.fzn_meaning.specs.declared.term.Term.{Term};
+ghost use Rattle.fzn_values.specs.declared.term.Term.{Term};
 ghost use Rattle.fzn_table.specs.Chains.{AreChained, IsChainedAt};
 ghost use Rattle.fzn_table.specs.Supports.{number_at, IsWhole};
 

@@ -2,7 +2,7 @@
 ghost use Rattle.std.specs.Prelude.{◌≡◌, ◌-◌, ◌≤◌, ℤ, List, length, IfOk, IfSome, IfNone, slice_index_or};
 ghost use Rattle.fzn_meaning.specs.declared.constraint.Constraint.{Constraint};
 ghost use Rattle.fzn_meaning.specs.declared.constraint.Constraint.TheVariants as constraint;
-ghost use Rattle.fzn_meaning.specs.declared.term.Term.{Term};
+ghost use Rattle.fzn_values.specs.declared.term.Term.{Term};
 ghost use Rattle.fzn_meaning.specs.Solutions.{declared_sets};
 ghost use Rattle.fzn_meaning.specs.WellFormed.{IsWellFormed};
 ghost use Rattle.fzn_table.specs.Propagator.{table_number, TableIsFor, TableFits};

@@ -3,13 +3,13 @@ ghost use Rattle.std.specs.Prelude.{◌≡◌, ◌/◌, ◌<◌, length};
 ghost use Rattle.std.specs.List.{All};
 ghost use Rattle.fzn_domain.specs.Limits.{IsInLimits};
 ghost use Rattle.fzn_domain.specs.Narrow.{NoneEmpty};
-ghost use Rattle.fzn_meaning.specs.Term.{IsTerm, numbers_in};
+ghost use Rattle.fzn_values.specs.Term.{IsTerm, numbers_in};
 ghost use Rattle.fzn_terms.specs.Values.{AreTerms-prop};
 ghost use Rattle.fzn_table.specs.Chains.{AreAllChained};
 
 use crate::supports::Supports;
-use fzn_meaning::Term;
 use fzn_trail::Trail;
+use fzn_values::Term;
 use std::alloc::Global;
 
 /// One pass over the places and the rows of a table, as they stand on a trail on which each present set has a value.

@@ -7,9 +7,9 @@ use crate::supports::Supports;
 use crate::table::bar_unsupported;
 use fzn_domain::Memory;
 use fzn_list::Shared;
-use fzn_meaning::{Rows, Term};
 use fzn_propagator::{Cost, Event, Findings, Propagator, Subscriptions};
 use fzn_trail::Trail;
+use fzn_values::{Rows, Term};
 use std::alloc::Global;
 
 /// What reasons for one table.

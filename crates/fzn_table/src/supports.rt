@@ -1,17 +1,17 @@
 // The rows of a table that have a value at a place. They take memory by the numbers of the table, however many values a place has.
 ghost use Rattle.std.specs.Prelude.{◌≡◌, ◌≢◌, ℕ, ◌<◌, ℤ, List, length, IfOk};
 ghost use Rattle.std.specs.List.{All};
-ghost use Rattle.fzn_meaning.specs.declared.term.Term.{Term};
-ghost use Rattle.fzn_meaning.specs.Term.{IsTerm, numbers_in};
+ghost use Rattle.fzn_values.specs.declared.term.Term.{Term};
+ghost use Rattle.fzn_values.specs.Term.{IsTerm, numbers_in};
 ghost use Rattle.fzn_table.specs.Chains.{IsColumn, IsChainedAt, AreAllChained};
 ghost use Rattle.fzn_table.specs.Supports.{number_at, IsWhole};
 
 use crate::chains::Chains;
 use crate::words::first_common;
 use fzn_domain::{Memory, Op};
-use fzn_meaning::Term;
 use fzn_terms::{Interval, may_be};
 use fzn_trail::Trail;
+use fzn_values::Term;
 use std::alloc::Global;
 
 /// A number of the table, where it stands.

@@ -3,7 +3,7 @@ ghost use Rattle.std.specs.Prelude.{◌≡◌, ◌≢◌, ◌↔◌, ℕ, ◌/�
 ghost use Rattle.fzn_domain.specs.IntSet.{least, greatest};
 ghost use Rattle.fzn_domain.specs.Limits.{IsInLimits, IsNearLimits};
 ghost use Rattle.fzn_domain.specs.Literal.{compares};
-ghost use Rattle.fzn_meaning.specs.Term.{IsTerm, numbers_in};
+ghost use Rattle.fzn_values.specs.Term.{IsTerm, numbers_in};
 ghost use Rattle.fzn_sets.specs.Terms.{MayBe};
 ghost use Rattle.fzn_propagator.specs.Left.{IsLeft};
 ghost use Rattle.fzn_propagator.specs.Clause.{IsFalseClause};
@@ -16,7 +16,6 @@ ghost use Rattle.fzn_table.specs.Passes.{MayHave, IsRowOfTable, number_in_row, I
 use crate::pass::Pass;
 use fzn_domain::{Domain, GREATEST_BOUND, LEAST_BOUND, Lit, Memory, Op, VarId};
 use fzn_list::Items;
-use fzn_meaning::Term;
 use fzn_propagator::Findings;
 use fzn_rules::Rule;
 use fzn_terms::{
@@ -24,6 +23,7 @@ use fzn_terms::{
     next_value,
 };
 use fzn_trail::Trail;
+use fzn_values::Term;
 
 /// Whether some literal of the clause is true where the variable has this value.
 fn is_barred(clause: &Items<Lit>, var: VarId, value: &i64) -> bool

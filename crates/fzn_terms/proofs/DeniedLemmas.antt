@@ -11,8 +11,8 @@ use Rattle.fzn_domain.specs.Literal.{compares, is_true_at, negated}
 use Rattle.fzn_domain.specs.IntSet.{IntSet, contains, is_possible}
 use Rattle.fzn_domain.specs.Narrow.{IsVariable, NoneEmpty, set_of}
 use Rattle.fzn_domain.proofs.SetLemmas.{is_true_at-negated, possible_when, impossible_when, witness, member_of_size}
-use Rattle.fzn_meaning.specs.declared.term.Term.{Term}
-use Rattle.fzn_meaning.specs.declared.term.Term.TheVariants.{Constant, Variable}
+use Rattle.fzn_values.specs.declared.term.Term.{Term}
+use Rattle.fzn_values.specs.declared.term.Term.TheVariants.{Constant, Variable}
 use Rattle.fzn_sets.specs.Terms.{MayBe}
 use Rattle.fzn_trail.specs.Levels.{Levels, IsNarrower}
 use Rattle.fzn_propagator.specs.Clause.{IsWritable, IsFalseClause, AreLeftByClause}

@@ -3,9 +3,9 @@ use Rattle.std.proofs.Common.{List, length, refl}
 use Rattle.fzn_domain.specs.IntSet.{IntSet}
 use Rattle.fzn_domain.specs.Narrow.{NoneEmpty, set_of}
 use Rattle.fzn_domain.proofs.SetLemmas.{member_of_size, contains-least, contains-greatest}
-use Rattle.fzn_meaning.specs.declared.term.Term.{Term}
-use Rattle.fzn_meaning.specs.declared.term.Term.TheVariants.{Constant, Variable}
-use Rattle.fzn_meaning.specs.Term.{IsTerm}
+use Rattle.fzn_values.specs.declared.term.Term.{Term}
+use Rattle.fzn_values.specs.declared.term.Term.TheVariants.{Constant, Variable}
+use Rattle.fzn_values.specs.Term.{IsTerm}
 use Rattle.fzn_sets.specs.Terms.{MayBe, least_value, greatest_value}
 use Rattle.fzn_trail.specs.Levels.{IsNarrower}
 use Rattle.fzn_propagator.proofs.CallerLemmas.{some_value}

@@ -8,10 +8,10 @@ use Rattle.fzn_domain.specs.Literal.{compares, is_true_at}
 use Rattle.fzn_domain.specs.IntSet.{IntSet, is_possible}
 use Rattle.fzn_domain.specs.Narrow.{IsVariable, IsClauseOver, set_of}
 use Rattle.fzn_domain.proofs.SetLemmas.{is_true_at-negated, possible_when, impossible_when}
-use Rattle.fzn_meaning.specs.declared.term.Term.{Term}
-use Rattle.fzn_meaning.specs.declared.term.Term.TheVariants.{Constant, Variable}
+use Rattle.fzn_values.specs.declared.term.Term.{Term}
+use Rattle.fzn_values.specs.declared.term.Term.TheVariants.{Constant, Variable}
 use Rattle.fzn_meaning.specs.declared.constraint.Constraint.{Constraint}
-use Rattle.fzn_meaning.specs.Term.{IsTerm}
+use Rattle.fzn_values.specs.Term.{IsTerm}
 use Rattle.fzn_rules.specs.declared.rule.Rule.{Rule}
 use Rattle.fzn_sets.specs.Terms.{MayBe}
 use Rattle.fzn_trail.specs.Levels.{Levels}

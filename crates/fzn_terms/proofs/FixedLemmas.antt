@@ -3,9 +3,9 @@ use Rattle.std.proofs.Common.{◌≡◌, ℕ, ◌-◌, true, List, length, refl,
 use Rattle.fzn_domain.specs.IntSet.{IntSet, contains, least, greatest, no_values}
 use Rattle.fzn_domain.specs.Narrow.{IsWithin, set_of, value_of}
 use Rattle.fzn_domain.proofs.SetLemmas.{only_member, contains-least, contains-greatest}
-use Rattle.fzn_meaning.specs.declared.term.Term.{Term}
-use Rattle.fzn_meaning.specs.declared.term.Term.TheVariants.{Constant, Variable}
-use Rattle.fzn_meaning.specs.Term.{IsTerm, term_value}
+use Rattle.fzn_values.specs.declared.term.Term.{Term}
+use Rattle.fzn_values.specs.declared.term.Term.TheVariants.{Constant, Variable}
+use Rattle.fzn_values.specs.Term.{IsTerm, term_value}
 use Rattle.fzn_sets.specs.Terms.{IsFixedTo}
 use Rattle.fzn_sets.proofs.CallerLemmas.{MayBe-term_value}
 use Rattle.fzn_trail.specs.Levels.{Levels}

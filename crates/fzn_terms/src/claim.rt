@@ -1,13 +1,13 @@
 // Claims of terms.
 ghost use Rattle.std.specs.Prelude.{◌≡◌, ◌<ℤ◌, ◌≤ℤ◌, ℕ, ℤ, List, IfSome};
 ghost use Rattle.fzn_domain.specs.IntSet.{IntSet};
-ghost use Rattle.fzn_meaning.specs.Term.{IsTerm};
+ghost use Rattle.fzn_values.specs.Term.{IsTerm};
 ghost use Rattle.fzn_sets.specs.Terms.{MayBe};
 ghost use Rattle.fzn_domain.specs.declared.literal.Op.TheVariants.{AtLeast, AtMost, Equal, NotEqual};
 ghost use Rattle.fzn_terms.specs.Denied.{claim_turned_round, that, IsDenied};
 
 use fzn_domain::{Lit, Op, VarId};
-use fzn_meaning::Term;
+use fzn_values::Term;
 
 /// That the value of the term stands to the number as the operator says.
 #[derive(Clone, Copy, Debug, PartialEq, Eq)]

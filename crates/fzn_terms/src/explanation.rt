@@ -2,7 +2,7 @@
 ghost use Rattle.std.specs.Prelude.{◌≡◌, ◌↔◌, ◌<◌, ◌≤ℤ◌, pos, negsuc, length, IfOk, OnOk, IfSome, IsTrue, MatchBool, slice_index_or};
 ghost use Rattle.std.specs.List.{All};
 ghost use Rattle.fzn_domain.specs.Narrow.{IsClauseOver, NoneEmpty};
-ghost use Rattle.fzn_meaning.specs.Term.{IsTerm};
+ghost use Rattle.fzn_values.specs.Term.{IsTerm};
 ghost use Rattle.fzn_propagator.specs.Clause.{IsFalseClause, IsWritable, IsForcing};
 ghost use Rattle.fzn_terms.specs.declared.claim.Claim.{Claim};
 ghost use Rattle.fzn_terms.specs.Denied.{IsEntailed, AreEntailedBut, IsDenied, IsSayable, IsSaid, ExplainsClaims, IsGrown, IsGrownToForce, IsClaimExplained, IsClaimForced};
@@ -10,9 +10,9 @@ ghost use Rattle.fzn_terms.specs.Denied.{IsEntailed, AreEntailedBut, IsDenied, I
 use crate::claim::Claim;
 use fzn_domain::{GREATEST_BOUND, LEAST_BOUND, Lit, Memory};
 use fzn_list::Items;
-use fzn_meaning::Term;
 use fzn_propagator::is_forcing;
 use fzn_trail::Trail;
+use fzn_values::Term;
 use std::alloc::Global;
 
 /// A clause of these claims, without the literals that are false of all declared values, which is false or forces one literal. Nothing

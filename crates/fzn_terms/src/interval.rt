@@ -3,7 +3,7 @@ ghost use Rattle.std.specs.Prelude.{◌≡◌, ◌↔◌, ℕ, List, length, IsT
 ghost use Rattle.fzn_domain.specs.IntSet.{IntSet};
 ghost use Rattle.fzn_domain.specs.Limits.{IsInLimits};
 ghost use Rattle.fzn_domain.specs.Narrow.{NoneEmpty};
-ghost use Rattle.fzn_meaning.specs.Term.{IsTerm};
+ghost use Rattle.fzn_values.specs.Term.{IsTerm};
 ghost use Rattle.fzn_sets.specs.Terms.{MayBe};
 ghost use Rattle.fzn_terms.specs.Denied.{IsDenied};
 ghost use Rattle.fzn_terms.specs.Intervals.{LiesIn, IsLimitedInterval, ends_of};
@@ -11,8 +11,8 @@ ghost use Rattle.fzn_terms.specs.Intervals.{LiesIn, IsLimitedInterval, ends_of};
 use crate::claim::Claim;
 use crate::values::{greatest_of, least_of};
 use fzn_domain::{GREATEST_VALUE, LEAST_VALUE};
-use fzn_meaning::Term;
 use fzn_trail::Trail;
+use fzn_values::Term;
 
 /// The numbers from one up to another.
 #[derive(Clone, Copy)]

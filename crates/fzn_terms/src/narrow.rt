@@ -3,13 +3,13 @@
 // has the ends of the term; values are counted only where that decides.
 ghost use Rattle.std.specs.Prelude.{◌≡◌, ◌↔◌, ◌≤◌, ◌-ℤ◌, ◌*◌, ◌≤ℤ◌, pos, min, IsTrue, length, max};
 ghost use Rattle.std.specs.List.{All};
-ghost use Rattle.fzn_meaning.specs.Term.{IsTerm};
+ghost use Rattle.fzn_values.specs.Term.{IsTerm};
 ghost use Rattle.fzn_terms.specs.Intervals.{IsLimitedInterval, ends_of};
 ghost use Rattle.fzn_terms.specs.Narrow.{value_count, HasFewValues, IsShort, IsNarrow};
 
 use crate::interval::Interval;
-use fzn_meaning::Term;
 use fzn_trail::Trail;
+use fzn_values::Term;
 
 /// So many values are few, however far they lie apart.
 pub const FEW_VALUES: usize = 64;

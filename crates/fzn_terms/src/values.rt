@@ -3,12 +3,12 @@ ghost use Rattle.std.specs.Prelude.{◌≡◌, ◌↔◌, ◌≤ℤ◌, ℤ, fal
 ghost use Rattle.std.specs.List.{All};
 ghost use Rattle.fzn_domain.specs.Limits.{IsInLimits};
 ghost use Rattle.fzn_domain.specs.Narrow.{NoneEmpty};
-ghost use Rattle.fzn_meaning.specs.Term.{IsTerm};
+ghost use Rattle.fzn_values.specs.Term.{IsTerm};
 ghost use Rattle.fzn_sets.specs.Terms.{MayBe, least_value, greatest_value};
 ghost use Rattle.fzn_terms.specs.Values.{IsNextValue, HasOther, IsOnly, IsFixed};
 
-use fzn_meaning::Term;
 use fzn_trail::Trail;
+use fzn_values::Term;
 
 /// Whether the value is in the present set of the term.
 pub fn may_be(trail: &Trail, term: Term, value: &i64) -> bool

@@ -6,13 +6,13 @@ use crate::by_hand::{is_filled, keep, lit};
 use crate::two_variables::trail_of;
 use fzn_domain::{Lit, Memory, Op, VarId};
 use fzn_list::Items;
-use fzn_meaning::{Place, Term};
 use fzn_sum::{
     conflict_at_most, conflict_not_equal, ends_of, floors_of, next_forced, refute_at_most,
     refute_equal, refute_not_equal, refute_place, slack_within,
 };
 use fzn_terms::{greatest_of, least_of};
 use fzn_trail::Trail;
+use fzn_values::{Place, Term};
 use std::alloc::Global;
 use std::test::*;
 

@@ -6,10 +6,10 @@ use Rattle.std.proofs.lemmas.List.{length-map}
 use Rattle.std.proofs.lemmas.List.Elements.{All-nil, All-cons, All-head, All-tail}
 use Rattle.fzn_domain.specs.IntSet.{IntSet}
 use Rattle.fzn_domain.specs.Limits.{IsInLimits, IsLimited}
-use Rattle.fzn_meaning.specs.declared.term.Term.{Term}
-use Rattle.fzn_meaning.specs.declared.term.Term.TheVariants as terms
+use Rattle.fzn_values.specs.declared.term.Term.{Term}
+use Rattle.fzn_values.specs.declared.term.Term.TheVariants as terms
 use Rattle.fzn_meaning.specs.Meaning.{IsBoolean, AreTerms}
-use Rattle.fzn_meaning.specs.Term.{number_in, weighted, IsTerm, IsPlace}
+use Rattle.fzn_values.specs.Term.{number_in, weighted, IsTerm, IsPlace}
 use Rattle.fzn_names.specs.Positions.{position_of}
 use Rattle.fzn_names.specs.Types.{is_wanted}
 use Rattle.fzn_names.specs.Values.{NameList, basic_meaning, terms_meant, set_in}

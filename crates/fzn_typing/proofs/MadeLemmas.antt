@@ -18,9 +18,9 @@ use Rattle.fzn_meaning.specs.declared.relation.Comparison.{Comparison}
 use Rattle.fzn_meaning.specs.declared.relation.Comparison.TheVariants as c
 use Rattle.fzn_meaning.specs.declared.relation.Relation.{Relation}
 use Rattle.fzn_meaning.specs.declared.relation.Relation.TheVariants as r
-use Rattle.fzn_meaning.specs.declared.term.Term.{Term}
+use Rattle.fzn_values.specs.declared.term.Term.{Term}
 use Rattle.fzn_meaning.specs.Meaning.{IsBoolean, HasBooleanSets, booleans_of, AreTerms, IsSum, IsWellFormedConstraint}
-use Rattle.fzn_meaning.specs.Term.{IsTerm}
+use Rattle.fzn_values.specs.Term.{IsTerm}
 use Rattle.fzn_names.specs.Values.{NameList}
 use Rattle.fzn_names.proofs.MeaningLemmas.{AreMeanings}
 use Rattle.fzn_tree.specs.declared.tree.Arg.{Arg}

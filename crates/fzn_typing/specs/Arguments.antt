@@ -3,9 +3,9 @@ use Rattle.std.specs.Prelude.{ℕ, ◌%◌, Bool, true, ◌&&◌, ◌||◌, ℤ,
 use Rattle.std.specs.List.{list_any}
 use Rattle.fzn_domain.specs.IntSet.{IntSet, no_values}
 use Rattle.fzn_lexer.specs.declared.token.Position.{Position}
-use Rattle.fzn_meaning.specs.declared.term.Term.{Term}
-use Rattle.fzn_meaning.specs.declared.term.Term.TheVariants as terms
-use Rattle.fzn_meaning.specs.Term.{number_in, numbers_in}
+use Rattle.fzn_values.specs.declared.term.Term.{Term}
+use Rattle.fzn_values.specs.declared.term.Term.TheVariants as terms
+use Rattle.fzn_values.specs.Term.{number_in, numbers_in}
 use Rattle.fzn_names.specs.Positions.{first}
 use Rattle.fzn_names.specs.Types.{sets_in, unknown_in, wrong_in}
 use Rattle.fzn_names.specs.Values.{NameList, basic_meaning, term_of, entry_terms, terms_meant, set_in}

@@ -7,13 +7,13 @@ use Rattle.fzn_meaning.specs.declared.constraint.Constraint.TheVariants.{Compare
 use Rattle.fzn_meaning.specs.declared.extremum.Extreme.TheVariants.{Least, Greatest}
 use Rattle.fzn_meaning.specs.declared.relation.Comparison.TheVariants as c
 use Rattle.fzn_meaning.specs.declared.relation.Relation.TheVariants as r
-use Rattle.fzn_meaning.specs.declared.term.Term.{Term}
-use Rattle.fzn_meaning.specs.declared.term.Place.{Place as Product}
+use Rattle.fzn_values.specs.declared.term.Term.{Term}
+use Rattle.fzn_values.specs.declared.term.Place.{Place as Product}
 use Rattle.fzn_names.specs.Values.{NameList}
 use Rattle.fzn_tree.specs.declared.tree.Arg.{Arg}
 use Rattle.fzn_registry.specs.declared.name.Name.{Name}
 use Rattle.fzn_registry.specs.declared.name.Name.TheVariants as n
-use Rattle.fzn_meaning.specs.Term.{weighted}
+use Rattle.fzn_values.specs.Term.{weighted}
 use Rattle.fzn_typing.specs.Arguments.{argument_term, terms_at, set_at, number_given, numbers_at}
 
 module _ (names : NameList) (given : List Arg) where

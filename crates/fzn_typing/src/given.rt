@@ -4,18 +4,19 @@ ghost use Rattle.std.specs.List.{All, list_any};
 ghost use Rattle.fzn_names.specs.Known.{known};
 ghost use Rattle.fzn_typing.specs.Arguments.{argument_term, terms_at, set_at, number_given, numbers_at, length_at, has_lengths, has_negative};
 ghost use Rattle.fzn_typing.specs.Limits.{IsArgWithin};
-ghost use Rattle.fzn_meaning.specs.Term.{weighted};
+ghost use Rattle.fzn_values.specs.Term.{weighted};
 ghost use Rattle.fzn_names.specs.Values.{entry_terms};
 ghost use Rattle.fzn_names.specs.Signs.{is_negative};
 
 use fzn_domain::Domain;
 use fzn_list::{Items, Shared};
-use fzn_meaning::{Rows, Sum, Term};
+use fzn_meaning::Sum;
 use fzn_names::{
     Names, array_of, has_negative_entry, is_negative, list_of, no_values, set_of, term_of, terms_of,
 };
 use fzn_registry::Lengths;
 use fzn_tree::{Arg, Basic};
+use fzn_values::{Rows, Term};
 use std::alloc::{AllocError, Global};
 
 /// The term that is the argument at this place.

@@ -9,10 +9,11 @@ ghost use Rattle.fzn_typing.specs.Limits.{IsArgWithin};
 
 use crate::given::{number_at, numbers_at, set_at, sum_of, term_at, terms_at};
 use fzn_list::{Items, Shared};
-use fzn_meaning::{Comparison, Constraint, Extreme, Gate, Operation, Relation, Term};
+use fzn_meaning::{Comparison, Constraint, Extreme, Gate, Operation, Relation};
 use fzn_names::Names;
 use fzn_registry::Name;
 use fzn_tree::Arg;
+use fzn_values::Term;
 use std::alloc::{AllocError, Global};
 
 fn compare(names: &Names, args: &[Arg], relation: Relation, switch: Option<Term>) -> Constraint

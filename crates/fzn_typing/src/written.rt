@@ -9,9 +9,10 @@ ghost use Rattle.fzn_typing.specs.Models.{equalities, written};
 
 use fzn_domain::Domain;
 use fzn_list::Items;
-use fzn_meaning::{Constraint, Relation, Term};
+use fzn_meaning::{Constraint, Relation};
 use fzn_names::{Names, term_of, values_in, variable_of};
 use fzn_tree::{Base, Basic, SingleVar, Values, Var};
+use fzn_values::Term;
 use std::alloc::{AllocError, Global};
 
 /// That the variable has the written value.

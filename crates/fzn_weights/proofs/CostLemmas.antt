@@ -4,7 +4,7 @@ use Rattle.std.specs.Int.{int_min}
 use Rattle.std.proofs.lemmas.Int.{ints}
 use Rattle.std.proofs.lemmas.List.{get_or-set_other, length-set, get_or-map, length-map}
 use Rattle.std.proofs.lemmas.List.Elements.{All-head, All-tail, All-nil, All-cons, All-set}
-use Rattle.fzn_meaning.specs.AllDifferent.{IsAllDifferent}
+use Rattle.fzn_values.specs.AllDifferent.{IsAllDifferent}
 use Rattle.fzn_dependence.proofs.IntLemmas.{plus_times}
 use Rattle.fzn_weights.specs.Prices.{price_in, price_at, total_price, least_price, most_cost}
 

@@ -8,10 +8,10 @@ use Rattle.std.proofs.lemmas.List.Elements.{All-nil, All-cons}
 use Rattle.fzn_domain.specs.IntSet.{IntSet}
 use Rattle.fzn_list.specs.Limits.{longest}
 use Rattle.fzn_domain.specs.Limits.{IsInLimits}
-use Rattle.fzn_meaning.specs.declared.term.Term.{Term}
+use Rattle.fzn_values.specs.declared.term.Term.{Term}
 use Rattle.fzn_meaning.specs.declared.row.Listed.{Listed}
 use Rattle.fzn_meaning.specs.declared.row.TablePart.{TablePart}
-use Rattle.fzn_meaning.specs.Term.{IsTerm}
+use Rattle.fzn_values.specs.Term.{IsTerm}
 use Rattle.fzn_meaning.specs.Separable.{IsWithinLimit, IsTablePart}
 use Rattle.fzn_weights.specs.Limits.{is_entry_within}
 use Rattle.fzn_weights.specs.Weights.{both_weights}

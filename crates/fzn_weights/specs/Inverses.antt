@@ -3,7 +3,7 @@ use Rattle.std.specs.Prelude.{ℕ, ℤ, pos, ◌+ℤ◌, zero, suc, Bool, if◌t
 use Rattle.std.specs.List.{position}
 use Rattle.std.specs.Ordering.{int_eq}
 use Rattle.fzn_domain.specs.declared.literal.VarId.{VarId}
-use Rattle.fzn_meaning.specs.declared.term.Term.{Term}
+use Rattle.fzn_values.specs.declared.term.Term.{Term}
 use Rattle.fzn_meaning.specs.declared.row.Listed.{Listed}
 use Rattle.fzn_meaning.specs.Separable.{listed_at}
 use Rattle.fzn_dependence.specs.Decided.{is_place_of}

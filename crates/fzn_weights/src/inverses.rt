@@ -11,7 +11,8 @@ use fzn_cited::DeriveFault;
 use fzn_dependence::is_place_of;
 use fzn_domain::VarId;
 use fzn_list::Items;
-use fzn_meaning::{Listed, Term, listed_at};
+use fzn_meaning::{Listed, listed_at};
+use fzn_values::Term;
 use std::alloc::Global;
 
 /// What was listed for each of so many values from 1 on, and for one of them so much more, unless that leaves the limits.

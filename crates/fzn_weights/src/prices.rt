@@ -3,7 +3,7 @@ ghost use Rattle.std.specs.Prelude.{◌≡◌, ◌*◌, ◌≤◌, true, nat_le,
 ghost use Rattle.std.specs.List.{All, list_all};
 ghost use Rattle.std.specs.Option.{option_map};
 ghost use Rattle.fzn_list.specs.Limits.{longest};
-ghost use Rattle.fzn_meaning.specs.Term.{IsTerm};
+ghost use Rattle.fzn_values.specs.Term.{IsTerm};
 ghost use Rattle.fzn_meaning.specs.Meaning.{IsWellFormedConstraint};
 ghost use Rattle.fzn_meaning.specs.Solutions.{declared_sets};
 ghost use Rattle.fzn_meaning.specs.Separable.{IsWeightList, IsWithinLimit};
@@ -11,7 +11,8 @@ ghost use Rattle.fzn_weights.specs.Prices.{price_at, entries_from, total_price, 
 
 use fzn_domain::Domain;
 use fzn_list::Items;
-use fzn_meaning::{Constraint, Listed, Term, Var, listed_at};
+use fzn_meaning::{Constraint, Listed, Var, listed_at};
+use fzn_values::Term;
 use std::alloc::{AllocError, Global};
 
 /// How many prices an item has at the most.

@@ -3,7 +3,7 @@ ghost use Rattle.std.specs.Prelude.{◌≡◌, ◌⊎◌, ◌+◌, ◌*◌, ◌<
 ghost use Rattle.std.specs.List.{All, list_all};
 ghost use Rattle.fzn_list.specs.Limits.{longest};
 ghost use Rattle.fzn_domain.specs.Limits.{IsInLimits};
-ghost use Rattle.fzn_meaning.specs.Term.{numbers_in, IsTerm};
+ghost use Rattle.fzn_values.specs.Term.{numbers_in, IsTerm};
 ghost use Rattle.fzn_meaning.specs.Meaning.{AreTerms};
 ghost use Rattle.fzn_meaning.specs.Separable.{IsWeightList};
 ghost use Rattle.fzn_meaning.specs.Solutions.{declared_sets};
@@ -19,7 +19,8 @@ use crate::moves::declared_set;
 use crate::prices::{less_price, price_at};
 use fzn_cited::DeriveFault;
 use fzn_list::{Items, Shared};
-use fzn_meaning::{Listed, Rows, TablePart, Term, Var, VariablePart, listed_at, weight_at};
+use fzn_meaning::{Listed, TablePart, Var, VariablePart, listed_at, weight_at};
+use fzn_values::{Rows, Term};
 use std::alloc::{AllocError, Global};
 
 /// What is added to the weight of a row by its entry at a column.

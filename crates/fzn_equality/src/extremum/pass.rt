@@ -2,11 +2,12 @@
 ghost use Rattle.std.specs.Prelude.{length};
 ghost use Rattle.std.specs.List.{All};
 ghost use Rattle.fzn_domain.specs.Narrow.{NoneEmpty};
-ghost use Rattle.fzn_meaning.specs.Term.{IsTerm};
+ghost use Rattle.fzn_values.specs.Term.{IsTerm};
 ghost use Rattle.fzn_terms.specs.Values.{IsTerm-prop, AreTerms-prop};
 
-use fzn_meaning::{Extreme, Term};
+use fzn_meaning::Extreme;
 use fzn_trail::Trail;
+use fzn_values::Term;
 use std::alloc::Global;
 
 /// One pass over an extremum, as its terms stand on a trail on which each present set has a value.

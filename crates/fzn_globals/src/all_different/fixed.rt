@@ -1,15 +1,15 @@
 // What follows from the places that have one value: by the rule `hall` of that value.
 ghost use Rattle.std.specs.Prelude.{◌<◌, length};
-ghost use Rattle.fzn_meaning.specs.Term.{IsTerm};
+ghost use Rattle.fzn_values.specs.Term.{IsTerm};
 ghost use Rattle.fzn_globals.specs.DifferentPasses.{AreFoundOfDifferent};
 
 use crate::all_different::pairs::{bar_like, bar_pair};
 use crate::all_different::pass::Pass;
 use fzn_domain::Memory;
-use fzn_meaning::Term;
 use fzn_propagator::Findings;
 use fzn_terms::{greatest_of, has_other, least_of, may_be, next_value};
 use fzn_trail::Trail;
+use fzn_values::Term;
 
 /// A place with one value. Which it is is open: each inference is tested by itself.
 #[derive(Clone, Copy, Debug)]

@@ -1,7 +1,7 @@
 // An interval of numbers, and terms that lie within it.
 ghost use Rattle.std.specs.Prelude.{◌≡◌, ◌≤ℤ◌, ℤ, pos, IsTrue, IfOk, OnOk, length};
 ghost use Rattle.fzn_domain.specs.Limits.{IsInLimits};
-ghost use Rattle.fzn_meaning.specs.Term.{IsTerm};
+ghost use Rattle.fzn_values.specs.Term.{IsTerm};
 ghost use Rattle.fzn_sets.specs.Terms.{MayBe};
 ghost use Rattle.fzn_rules.specs.Hall.{lies_within};
 ghost use Rattle.fzn_propagator.specs.Clause.{IsFalseClause};
@@ -12,8 +12,8 @@ use crate::all_different::pass::Pass;
 use fzn_domain::{GREATEST_VALUE, LEAST_VALUE, Lit, Memory};
 use fzn_intervals::Interval;
 use fzn_list::Items;
-use fzn_meaning::Term;
 use fzn_terms::{Claim, explain, force, greatest_of, least_of};
+use fzn_values::Term;
 
 /// The numbers from one up to another, within the limits.
 #[derive(Clone, Copy, Debug)]

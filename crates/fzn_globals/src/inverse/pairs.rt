@@ -1,7 +1,7 @@
 // What follows from two entries of two lists that lead back from one another's places: by the rule `pair`.
 ghost use Rattle.std.specs.Prelude.{◌≡◌, [], IsTrue, IfOk, IfSome, IfNone, OnOk, length};
 ghost use Rattle.fzn_domain.specs.Limits.{IsInLimits};
-ghost use Rattle.fzn_meaning.specs.Term.{IsTerm};
+ghost use Rattle.fzn_values.specs.Term.{IsTerm};
 ghost use Rattle.fzn_sets.specs.Terms.{MayBe, term_at};
 ghost use Rattle.fzn_propagator.specs.Clause.{IsForcing};
 ghost use Rattle.fzn_globals.specs.Ways.{IsMissed, pair_rule};
@@ -10,13 +10,13 @@ ghost use Rattle.fzn_globals.specs.InversePasses.{IsJustifiedByInverse, AreFound
 use crate::inverse::pass::{Pass, Side};
 use fzn_domain::{Lit, Memory, Op};
 use fzn_list::Items;
-use fzn_meaning::Term;
 use fzn_propagator::Findings;
 use fzn_rules::Rule;
 use fzn_sets::term_at;
 use fzn_terms::{
     Claim, explain, force, force_possible, has_other, is_fixed, least_of, may_be, next_value,
 };
+use fzn_values::Term;
 
 /// Adds to a clause that is false, or forces a literal, that the term is this number, which it cannot be on the trail.
 fn push_missing(

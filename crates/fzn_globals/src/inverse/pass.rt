@@ -3,12 +3,12 @@ ghost use Rattle.std.specs.Prelude.{◌≡◌, ◌≤◌, length};
 ghost use Rattle.std.specs.List.{All};
 ghost use Rattle.fzn_domain.specs.Narrow.{NoneEmpty};
 ghost use Rattle.fzn_list.specs.Limits.{longest};
-ghost use Rattle.fzn_meaning.specs.Term.{IsTerm};
+ghost use Rattle.fzn_values.specs.Term.{IsTerm};
 ghost use Rattle.fzn_terms.specs.Values.{AreTerms-prop};
 ghost use Rattle.fzn_globals.specs.Ways.{other_side};
 
-use fzn_meaning::Term;
 use fzn_trail::Trail;
+use fzn_values::Term;
 use std::alloc::Global;
 
 /// Which of the two lists is narrowed by the other.

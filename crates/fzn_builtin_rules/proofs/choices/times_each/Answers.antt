@@ -1,6 +1,6 @@
 use Rattle.std.proofs.Common.{◌*◌, drop, ◌+◌, length}
 use Rattle.std.proofs.lemmas.List.Elements.{All-drop}
-use Rattle.fzn_meaning.specs.Term.{IsTerm}
+use Rattle.fzn_values.specs.Term.{IsTerm}
 use Rattle.fzn_builtin_rules.specs.Choices.{choices}
 use Rattle.fzn_builtin_rules.proofs.ChoiceLemmas.{some_choice}
 use Rattle.fzn_builtin_rules.proofs.CountLemmas.{if_none, drop_next, one_more, too_many}

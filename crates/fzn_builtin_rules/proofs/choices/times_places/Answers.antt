@@ -1,9 +1,9 @@
 use Rattle.std.proofs.Common.{◌≡◌, ◌∷◌, List, drop, map, ap, sym, ◌∙◌, ◌+◌, length, pos, arith}
 use Rattle.std.proofs.lemmas.List.Elements.{All-drop}
-use Rattle.fzn_meaning.specs.declared.term.Term.{Term}
-use Rattle.fzn_meaning.specs.declared.term.Term.TheVariants.{Constant}
-use Rattle.fzn_meaning.specs.declared.term.Place.{Place}
-use Rattle.fzn_meaning.specs.Term.{IsPlace}
+use Rattle.fzn_values.specs.declared.term.Term.{Term}
+use Rattle.fzn_values.specs.declared.term.Term.TheVariants.{Constant}
+use Rattle.fzn_values.specs.declared.term.Place.{Place}
+use Rattle.fzn_values.specs.Term.{IsPlace}
 use Rattle.fzn_builtin_rules.specs.Choices.{choices}
 use Rattle.fzn_builtin_rules.proofs.ChoiceLemmas.{some_choice}
 use Rattle.fzn_builtin_rules.proofs.CountLemmas.{if_none, drop_next, one_more, too_many, place_terms}

@@ -1,5 +1,5 @@
 use Rattle.std.proofs.Common.{◌≡◌, ◌*◌, ◌≤◌, ◌+ℤ◌, drop, map, unsigned_abs}
-use Rattle.fzn_meaning.specs.declared.term.Place.{Place}
+use Rattle.fzn_values.specs.declared.term.Place.{Place}
 use Rattle.fzn_builtin_rules.specs.Choices.{weighted_sum}
 use Rattle.fzn_builtin_rules.specs.Numbered.{choice_at}
 use Rattle.fzn_builtin_rules.proofs.chosen.weighted_sum.Given as goal

@@ -1,7 +1,7 @@
 use Rattle.std.proofs.Common.{◌≡◌, ◌↔◌, IsTrue, ℕ, ◌+◌, ℤ, pos, length, get_or, refl, subst, arith}
 use Rattle.std.proofs.lemmas.Int.{ints}
 use Rattle.std.proofs.lemmas.Bool.{false≢true}
-use Rattle.fzn_meaning.specs.Entries.{IsIndex}
+use Rattle.fzn_values.specs.Entries.{IsIndex}
 use Rattle.fzn_meaning.specs.Elements.{IsElement}
 use Rattle.fzn_sets.specs.Terms.{MayBe}
 use Rattle.fzn_builtin_rules.specs.Numbered.{value_in, rest_in, choice_at}

@@ -1,5 +1,5 @@
 use Rattle.std.proofs.Common.{◌↔◌, IsTrue, List, subst, Some}
-use Rattle.fzn_meaning.specs.declared.term.Term.{Term}
+use Rattle.fzn_values.specs.declared.term.Term.{Term}
 use Rattle.fzn_meaning.specs.Comparisons.{IsSwitched}
 use Rattle.fzn_meaning.specs.Booleans.{Passes}
 use Rattle.fzn_builtin_rules.specs.Choices.{inputs_of, result_of, Relates, NoneOf}

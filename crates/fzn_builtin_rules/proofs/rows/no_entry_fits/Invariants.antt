@@ -1,5 +1,5 @@
 use Rattle.std.proofs.Common.{ℕ, ◌+◌, ◌<◌, get_or, pos}
-use Rattle.fzn_meaning.specs.declared.term.Term.{Term}
+use Rattle.fzn_values.specs.declared.term.Term.{Term}
 use Rattle.fzn_sets.specs.Terms.{MayBe}
 use Rattle.fzn_builtin_rules.specs.Rows.{ShareNone}
 use Rattle.fzn_builtin_rules.proofs.rows.no_entry_fits.Given as goal

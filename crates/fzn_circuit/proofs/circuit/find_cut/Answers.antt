@@ -1,7 +1,7 @@
 use Rattle.std.proofs.Common.{rules, ◌≡◌, ◌<◌, length, arith, ap, ap₂, sym, subst, ◌∙◌, ℤ, w64, to_z, of_z, FitsSigned, IsPermutation}
 use Rattle.std.proofs.lemmas.Int.{to_z-of_z}
 use Rattle.fzn_domain.specs.declared.literal.Op.TheVariants.{Equal}
-use Rattle.fzn_meaning.specs.declared.term.Term.{Term}
+use Rattle.fzn_values.specs.declared.term.Term.{Term}
 use Rattle.fzn_meaning.specs.declared.constraint.Constraint.TheVariants.{Circuit}
 use Rattle.fzn_sets.specs.Terms.{term_at}
 use Rattle.fzn_terms.specs.declared.claim.Claim.{Claim}

@@ -2,8 +2,8 @@ use Rattle.std.proofs.Common.{rules, ◌≤ℤ◌, ap, sym, subst, subst₂, ◌
 use Rattle.std.proofs.lemmas.Result.{IfOk-weaker}
 use Rattle.fzn_domain.specs.declared.literal.Op.TheVariants.{AtMost, AtLeast}
 use Rattle.fzn_domain.proofs.DomainLemmas.{real}
-use Rattle.fzn_meaning.specs.declared.term.Term.{Term}
-use Rattle.fzn_meaning.specs.declared.term.Term.TheVariants.{Variable}
+use Rattle.fzn_values.specs.declared.term.Term.{Term}
+use Rattle.fzn_values.specs.declared.term.Term.TheVariants.{Variable}
 use Rattle.fzn_rules.specs.Cut.{LeadsInto}
 use Rattle.fzn_terms.specs.declared.claim.Claim.{Claim}
 use Rattle.fzn_terms.specs.Denied.{that, IsEntailed, IsClaimExplained, IsGrown}

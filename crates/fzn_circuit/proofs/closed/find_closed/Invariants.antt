@@ -1,5 +1,5 @@
 use Rattle.std.proofs.Common.{ℕ, ◌<◌, get_or, length, pos}
-use Rattle.fzn_meaning.specs.Entries.{IsIndex}
+use Rattle.fzn_values.specs.Entries.{IsIndex}
 use Rattle.fzn_propagator.specs.Clause.{IsFalseClause, Says}
 use Rattle.fzn_circuit.proofs.ClosedLemmas.{LeadInto}
 use Rattle.fzn_circuit.proofs.closed.find_closed.Given as goal

@@ -2,7 +2,7 @@ use Rattle.std.proofs.Common.{◌≡◌, ◌+◌, ◌≤◌, ℕ, List, [], leng
 use Rattle.std.proofs.lemmas.Int.{ints}
 use Rattle.std.proofs.lemmas.Bool.{cases_lt}
 use Rattle.fzn_domain.specs.declared.literal.Op.TheVariants.{AtLeast}
-use Rattle.fzn_meaning.specs.declared.term.Term.TheVariants.{Constant}
+use Rattle.fzn_values.specs.declared.term.Term.TheVariants.{Constant}
 use Rattle.fzn_terms.specs.declared.claim.Claim.{Claim}
 use Rattle.fzn_terms.specs.Denied.{that, IsDenied}
 use Rattle.fzn_propagator.specs.Inference.{Inference}

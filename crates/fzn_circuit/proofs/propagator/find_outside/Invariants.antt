@@ -1,5 +1,5 @@
 use Rattle.std.proofs.Common.{◌≡◌, ℕ, ◌<◌, [], length, get_or}
-use Rattle.fzn_meaning.specs.declared.term.Term.{Term}
+use Rattle.fzn_values.specs.declared.term.Term.{Term}
 use Rattle.fzn_circuit.specs.Circuits.{IsSuccessorInside}
 use Rattle.fzn_circuit.specs.Passes.{AreFoundOfCircuit}
 use Rattle.fzn_circuit.proofs.propagator.find_outside.Given as goal

@@ -1,5 +1,5 @@
 use Rattle.std.proofs.Common.{◌≡◌, ℕ, ◌<◌, get_or, pos}
-use Rattle.fzn_meaning.specs.declared.term.Term.TheVariants.{Constant}
+use Rattle.fzn_values.specs.declared.term.Term.TheVariants.{Constant}
 use Rattle.fzn_sets.specs.Terms.{least_value}
 use Rattle.fzn_circuit.specs.Circuits.{owner_of}
 use Rattle.fzn_circuit.proofs.same.are_owned.Given as goal

@@ -2,7 +2,7 @@ use Rattle.std.proofs.Common.{rules, ◌≡◌, sym, subst, w64, to_z, of_z, Fit
 use Rattle.std.specs.List.{All}
 use Rattle.std.proofs.lemmas.Int.{to_z-of_z}
 use Rattle.std.proofs.lemmas.List.Elements.{All-push}
-use Rattle.fzn_meaning.specs.Entries.{IsIndex}
+use Rattle.fzn_values.specs.Entries.{IsIndex}
 use Rattle.fzn_circuit.proofs.ways.add_start.Goals as goal
 
 pub returns-in_err-push : goal.returns-in_err-push

@@ -1,5 +1,5 @@
 use Rattle.std.proofs.Common.{length}
-use Rattle.fzn_meaning.specs.Entries.{IsIndex}
+use Rattle.fzn_values.specs.Entries.{IsIndex}
 use Rattle.fzn_circuit.proofs.ways.comes_back.Given as goal
 
 abbrev pub invariant-loop-count : goal.invariant-loop-count

@@ -1,6 +1,6 @@
 use Rattle.std.proofs.Common.{length, sym, subst}
 use Rattle.std.specs.List.{All}
-use Rattle.fzn_meaning.specs.Entries.{IsIndex}
+use Rattle.fzn_values.specs.Entries.{IsIndex}
 use Rattle.fzn_circuit.proofs.ways.starts_of.Goals as goal
 use Rattle.fzn_circuit.proofs.ways.starts_of.Goals.{then-is_free+then-comes_back+in_ok-add_start, else-is_free, then-is_led+then-comes_back-2+in_ok-add_start-2, else-is_led}
 

@@ -1,6 +1,6 @@
 use Rattle.std.proofs.Common.{◌≡◌, ap₂, sym, ◌∙◌, arith, ℤ, pos, ◌+ℤ◌, to_z, of_z}
 use Rattle.std.proofs.lemmas.Int.{ints}
-use Rattle.fzn_meaning.specs.declared.term.Term.TheVariants.{Constant}
+use Rattle.fzn_values.specs.declared.term.Term.TheVariants.{Constant}
 use Rattle.fzn_cumulative.proofs.EnergyLemmas.{energies-more}
 use Rattle.fzn_cumulative.specs.Passes.{tasks_of}
 use Rattle.fzn_cumulative.proofs.energy.energies_of.Goals as goal

@@ -1,7 +1,7 @@
 use Rattle.std.proofs.Common.{sym, subst, ◌∙◌, length, w64, to_z, of_z}
 use Rattle.std.specs.List.{All}
 use Rattle.fzn_domain.specs.Limits.{IsInLimits}
-use Rattle.fzn_meaning.specs.Term.{IsTerm}
+use Rattle.fzn_values.specs.Term.{IsTerm}
 use Rattle.fzn_cumulative.proofs.PropagatorLemmas.{constants_formed}
 use Rattle.fzn_domain.proofs.DomainLemmas.{real}
 use Rattle.fzn_cumulative.specs.Passes.{tasks_of}

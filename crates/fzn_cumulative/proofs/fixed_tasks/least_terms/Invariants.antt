@@ -1,6 +1,6 @@
 use Rattle.std.proofs.Common.{◌≡◌, take}
 use Rattle.std.specs.List.{All}
-use Rattle.fzn_meaning.specs.Term.{IsTerm}
+use Rattle.fzn_values.specs.Term.{IsTerm}
 use Rattle.fzn_cumulative.specs.Kept.{least_terms}
 use Rattle.fzn_cumulative.proofs.fixed_tasks.least_terms.Given as goal
 

@@ -1,6 +1,6 @@
 use Rattle.std.proofs.Common.{◌≡◌, ap₂, sym, ◌∙◌, arith, ℤ, pos, ◌+ℤ◌, w64, to_z, of_z}
 use Rattle.std.proofs.lemmas.Int.{ints}
-use Rattle.fzn_meaning.specs.declared.term.Term.TheVariants.{Constant}
+use Rattle.fzn_values.specs.declared.term.Term.TheVariants.{Constant}
 use Rattle.fzn_cumulative.proofs.LoadLemmas.{total-more}
 use Rattle.fzn_cumulative.specs.Passes.{tasks_of}
 use Rattle.fzn_cumulative.proofs.load.load_at.Goals as goal

@@ -1,8 +1,8 @@
 use Rattle.std.proofs.Common.{◌≡◌, ℕ, get_or, inl, inr, arith, ap, subst, ◌∙◌, pos}
 use Rattle.std.proofs.lemmas.Bool.{cases_lt, MatchBool-at_false}
 use Rattle.std.proofs.lemmas.List.{get_or_default}
-use Rattle.fzn_meaning.specs.declared.term.Term.{Term}
-use Rattle.fzn_meaning.specs.declared.term.Term.TheVariants.{Constant}
+use Rattle.fzn_values.specs.declared.term.Term.{Term}
+use Rattle.fzn_values.specs.declared.term.Term.TheVariants.{Constant}
 use Rattle.fzn_sets.specs.Terms.{greatest_value}
 use Rattle.fzn_cumulative.specs.Loads.{IsKeptAt}
 use Rattle.fzn_domain.proofs.DomainLemmas.{real}

@@ -1,5 +1,5 @@
 use Rattle.std.proofs.Common.{ℕ, ◌<◌, get_or}
-use Rattle.fzn_meaning.specs.declared.term.Term.{Term}
+use Rattle.fzn_values.specs.declared.term.Term.{Term}
 use Rattle.fzn_sets.specs.Terms.{greatest_value}
 use Rattle.fzn_cumulative.specs.Loads.{IsKeptAt}
 use Rattle.fzn_cumulative.specs.Passes.{tasks_of, AreFoundOfCumulative}

@@ -2,8 +2,8 @@ use Rattle.std.proofs.Common.{◌≡◌, ℕ, get_or, inl, inr, arith, sym, subs
 use Rattle.std.proofs.lemmas.Bool.{cases_lt, MatchBool-at_true, MatchBool-at_false}
 use Rattle.std.proofs.lemmas.List.{get_or_default}
 use Rattle.fzn_domain.specs.declared.literal.Op.TheVariants.{AtMost}
-use Rattle.fzn_meaning.specs.declared.term.Term.{Term}
-use Rattle.fzn_meaning.specs.declared.term.Term.TheVariants.{Constant}
+use Rattle.fzn_values.specs.declared.term.Term.{Term}
+use Rattle.fzn_values.specs.declared.term.Term.TheVariants.{Constant}
 use Rattle.fzn_terms.specs.Denied.{that, IsDenied}
 use Rattle.fzn_cumulative.specs.Loads.{cumulative_of}
 use Rattle.fzn_cumulative.specs.Passes.{tasks_of, AreFoundOfCumulative}

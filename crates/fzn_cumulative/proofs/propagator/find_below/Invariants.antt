@@ -1,6 +1,6 @@
 use Rattle.std.proofs.Common.{◌≡◌, ℕ, ◌<◌, [], negsuc, get_or}
 use Rattle.fzn_domain.specs.declared.literal.Op.TheVariants.{AtMost}
-use Rattle.fzn_meaning.specs.declared.term.Term.{Term}
+use Rattle.fzn_values.specs.declared.term.Term.{Term}
 use Rattle.fzn_terms.specs.Denied.{that, IsDenied}
 use Rattle.fzn_cumulative.proofs.propagator.find_below.Given as goal
 use Rattle.fzn_cumulative.specs.Passes.{AreFoundOfCumulative}

@@ -1,6 +1,6 @@
 use Rattle.std.proofs.Common.{arith, ◌<◌, length, pos, sym, ap, ◌∙◌}
-use Rattle.fzn_meaning.specs.declared.term.Term.TheVariants.{Constant}
-use Rattle.fzn_meaning.specs.declared.term.Place.{Place}
+use Rattle.fzn_values.specs.declared.term.Term.TheVariants.{Constant}
+use Rattle.fzn_values.specs.declared.term.Place.{Place}
 use Rattle.fzn_builtin_rules.specs.Borrowed.{places_in}
 use Rattle.fzn_dependence.specs.Decided.{another_in}
 use Rattle.fzn_dependence.proofs.DecidedLemmas.{another-more, another-found}

@@ -1,8 +1,8 @@
 use Rattle.std.proofs.Common.{◌+◌, ⊎_elim, subst, sym, List}
 use Rattle.std.specs.List.{Contains}
 use Rattle.std.proofs.lemmas.List.{take_rest}
-use Rattle.fzn_meaning.specs.declared.term.Term.{Term}
-use Rattle.fzn_meaning.specs.declared.term.Term.TheVariants.{Variable}
+use Rattle.fzn_values.specs.declared.term.Term.{Term}
+use Rattle.fzn_values.specs.declared.term.Term.TheVariants.{Variable}
 use Rattle.fzn_derive.proofs.PairLemmas.{stand_behind, stand_beside}
 use Rattle.fzn_derive.proofs.apart.stand_apart.Goals as goal
 

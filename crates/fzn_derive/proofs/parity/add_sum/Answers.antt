@@ -1,7 +1,7 @@
 use Rattle.std.proofs.Common.{◌≡◌, Bool, ap, get_or, pos, subst, arith, Option, MatchOption}
 use Rattle.std.specs.Option.{is_some}
-use Rattle.fzn_meaning.specs.declared.term.Term.{Term}
-use Rattle.fzn_meaning.specs.declared.term.Term.TheVariants.{Constant}
+use Rattle.fzn_values.specs.declared.term.Term.{Term}
+use Rattle.fzn_values.specs.declared.term.Term.TheVariants.{Constant}
 use Rattle.fzn_meaning.specs.Meaning.{IsBoolean}
 use Rattle.fzn_meaning.specs.Solutions.{declared_sets}
 use Rattle.fzn_derive.specs.Parity.{is_one}

@@ -1,5 +1,5 @@
 use Rattle.std.proofs.Common.{◌≡◌, [], ℕ, ◌+◌, ◌<◌, get_or, pos}
-use Rattle.fzn_meaning.specs.declared.term.Term.{Term}
+use Rattle.fzn_values.specs.declared.term.Term.{Term}
 use Rattle.fzn_globals.specs.InversePasses.{AreFoundOfInverse, AreEntries, LeadsBackAt}
 use Rattle.fzn_globals.proofs.inverse.find_on_list.Given as goal
 

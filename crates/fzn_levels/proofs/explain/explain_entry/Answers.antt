@@ -2,7 +2,7 @@ use Rattle.std.proofs.Common.{rules, ◌≡◌, ◌∙◌, sym, ap, FitsSigned, 
 use Rattle.std.proofs.lemmas.Int.{to_z-of_z}
 use Rattle.std.proofs.lemmas.Result.{on_ok_weaker}
 use Rattle.fzn_domain.specs.declared.literal.Op.TheVariants.{NotEqual}
-use Rattle.fzn_meaning.specs.declared.term.Term.TheVariants.{Variable}
+use Rattle.fzn_values.specs.declared.term.Term.TheVariants.{Variable}
 use Rattle.fzn_meaning.specs.Separable.{weight_at}
 use Rattle.fzn_terms.specs.Denied.{that}
 use Rattle.fzn_levels.proofs.LevelLemmas.{entry_absent, said_entry}

@@ -4,7 +4,7 @@ use Rattle.std.proofs.lemmas.Int.{to_z-of_z}
 use Rattle.std.proofs.lemmas.Result.{on_ok_weaker}
 use Rattle.fzn_domain.proofs.DomainLemmas.{real}
 use Rattle.fzn_domain.specs.declared.literal.Op.TheVariants.{AtMost, AtLeast}
-use Rattle.fzn_meaning.specs.declared.term.Term.TheVariants.{Variable}
+use Rattle.fzn_values.specs.declared.term.Term.TheVariants.{Variable}
 use Rattle.fzn_meaning.specs.Separable.{weight_at}
 use Rattle.fzn_terms.specs.Denied.{that}
 use Rattle.fzn_levels.proofs.LevelLemmas.{said_from, said_to}

@@ -1,6 +1,6 @@
 use Rattle.std.proofs.Common.{ℕ, ◌+◌, ◌*◌, ◌<◌, length, get_or, pos, IfSome}
 use Rattle.std.specs.Prelude.{IfNone}
-use Rattle.fzn_meaning.specs.declared.term.Term.TheVariants.{Constant}
+use Rattle.fzn_values.specs.declared.term.Term.TheVariants.{Constant}
 use Rattle.fzn_sets.specs.Terms.{MayBe}
 use Rattle.fzn_levels.specs.Levels.{IsPlaceOut}
 use Rattle.fzn_levels.proofs.explain_table.place_out.Given as goal

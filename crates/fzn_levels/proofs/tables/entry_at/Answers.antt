@@ -2,8 +2,8 @@ use Rattle.std.proofs.Common.{arith, ◌≡◌, ◌+◌, ◌*◌, ◌<◌, ℕ, 
 use Rattle.std.proofs.lemmas.List.{length-map, get_or-map}
 use Rattle.fzn_domain.specs.Limits.{IsInLimits}
 use Rattle.fzn_domain.proofs.DomainLemmas.{real}
-use Rattle.fzn_meaning.specs.declared.term.Term.TheVariants.{Constant}
-use Rattle.fzn_meaning.specs.Term.{number_in}
+use Rattle.fzn_values.specs.declared.term.Term.TheVariants.{Constant}
+use Rattle.fzn_values.specs.Term.{number_in}
 use Rattle.fzn_levels.proofs.TableLemmas.{place_inside}
 use Rattle.fzn_levels.proofs.tables.entry_at.Goals as goal
 

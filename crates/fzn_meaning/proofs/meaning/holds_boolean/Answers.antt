@@ -2,7 +2,7 @@ use Rattle.std.proofs.Common.{◌↔◌, IsTrue, ◌∙◌, subst, rules}
 use Rattle.std.proofs.lemmas.Int.{to_z-of_z}
 use Rattle.fzn_meaning.specs.Booleans.{IsGated}
 use Rattle.fzn_meaning.specs.Meaning.{Meets}
-use Rattle.fzn_meaning.specs.Term.{values_of}
+use Rattle.fzn_values.specs.Term.{values_of}
 use Rattle.fzn_meaning.proofs.meaning.holds_boolean.Goals as goal
 use mir.Syntax.{w64}
 use mir.Val.{to_z, of_z, SFits}

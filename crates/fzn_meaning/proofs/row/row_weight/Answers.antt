@@ -1,5 +1,5 @@
 use Rattle.std.proofs.Common.{arith, ◌≡◌, ◌<◌, Bool, true, false, IsTrue, List, length, get_or, sym, ap, subst, ◌∙◌, ℤ, Option, None}
-use Rattle.fzn_meaning.specs.Table.{row_at}
+use Rattle.fzn_values.specs.Table.{row_at}
 use Rattle.fzn_meaning.specs.Separable.{row_weight}
 use Rattle.fzn_meaning.proofs.TableWeightLemmas.{take-begins, not-begins, row_weight-at, row_weight-on}
 use Rattle.fzn_meaning.proofs.row.row_weight.Goals as goal

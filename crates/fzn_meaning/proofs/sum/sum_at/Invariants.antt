@@ -1,5 +1,5 @@
 use Rattle.std.proofs.Common.{◌≡◌, ◌*◌, ◌≤◌, take, unsigned_abs}
-use Rattle.fzn_meaning.specs.Term.{sum_at}
+use Rattle.fzn_values.specs.Term.{sum_at}
 use Rattle.fzn_meaning.proofs.sum.sum_at.Given as goal
 
 abbrev pub invariant-loop-i : goal.invariant-loop-i

@@ -1,6 +1,6 @@
 use Rattle.std.proofs.Common.{◌≡◌, length}
 use Rattle.std.specs.List.{All}
-use Rattle.fzn_meaning.specs.Term.{IsTerm}
+use Rattle.fzn_values.specs.Term.{IsTerm}
 use Rattle.fzn_names.specs.Flags.{with_terms}
 use Rattle.fzn_names.proofs.flag.flag_terms.Given as goal
 

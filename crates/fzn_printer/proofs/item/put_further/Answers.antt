@@ -1,6 +1,6 @@
 use Rattle.std.proofs.Common.{arith, ◌++◌}
 use Rattle.std.specs.Prelude.{codes, pos}
-use Rattle.fzn_meaning.specs.declared.term.Term.TheVariants.{Constant}
+use Rattle.fzn_values.specs.declared.term.Term.TheVariants.{Constant}
 use Rattle.fzn_printer.specs.Shown.{entry_text}
 use Rattle.fzn_streams.proofs.CallerLemmas.{Appends-then, front-left, front-then, front-each, front-each-at, Puts-last, Puts-stopped}
 use Rattle.fzn_printer.proofs.item.put_further.Goals as goal

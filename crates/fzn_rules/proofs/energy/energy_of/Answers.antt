@@ -1,6 +1,6 @@
 use Rattle.std.proofs.Common.{◌≡◌, ◌∙◌, pos, ◌+ℤ◌, arith}
 use Rattle.std.proofs.lemmas.Int.{ints}
-use Rattle.fzn_meaning.specs.declared.term.Term.TheVariants.{Constant}
+use Rattle.fzn_values.specs.declared.term.Term.TheVariants.{Constant}
 use Rattle.fzn_rules.specs.Energy.{least_energy}
 use Rattle.fzn_rules.proofs.TaskLemmas.{sum_over-more, sum_over-all}
 use Rattle.fzn_rules.proofs.energy.energy_of.Goals as goal

@@ -1,6 +1,6 @@
 use Rattle.std.proofs.Common.{◌+◌, ◌*◌, ◌≤◌, length, below_more, rules, arith}
 use Rattle.std.proofs.lemmas.List.{length-map}
-use Rattle.fzn_meaning.specs.Term.{number_in, numbers_in}
+use Rattle.fzn_values.specs.Term.{number_in, numbers_in}
 use Rattle.fzn_rules.specs.GlobalRows.{IsRowOut}
 use Rattle.fzn_rules.proofs.global_rows.are_rows_out.Goals as goal
 

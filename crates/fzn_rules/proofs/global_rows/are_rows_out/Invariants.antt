@@ -1,5 +1,5 @@
 use Rattle.std.proofs.Common.{ℕ, ◌<◌}
-use Rattle.fzn_meaning.specs.Term.{numbers_in}
+use Rattle.fzn_values.specs.Term.{numbers_in}
 use Rattle.fzn_rules.specs.GlobalRows.{IsRowOut}
 use Rattle.fzn_rules.proofs.global_rows.are_rows_out.Given as goal
 

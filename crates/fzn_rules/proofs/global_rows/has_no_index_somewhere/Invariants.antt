@@ -1,5 +1,5 @@
 use Rattle.std.proofs.Common.{ℕ, ◌<◌, length, get_or, pos}
-use Rattle.fzn_meaning.specs.declared.term.Term.TheVariants.{Constant}
+use Rattle.fzn_values.specs.declared.term.Term.TheVariants.{Constant}
 use Rattle.fzn_rules.specs.GlobalRows.{HasNoIndex}
 use Rattle.fzn_rules.proofs.global_rows.has_no_index_somewhere.Given as goal
 

@@ -1,5 +1,5 @@
 use Rattle.std.proofs.Common.{ℕ, ◌<◌, get_or, pos}
-use Rattle.fzn_meaning.specs.declared.term.Term.TheVariants.{Constant}
+use Rattle.fzn_values.specs.declared.term.Term.TheVariants.{Constant}
 use Rattle.fzn_rules.specs.GlobalRows.{IsBelowZero}
 use Rattle.fzn_rules.proofs.global_rows.is_below_zero_somewhere.Given as goal
 

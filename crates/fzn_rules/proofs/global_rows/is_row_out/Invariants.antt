@@ -1,6 +1,6 @@
 use Rattle.std.proofs.Common.{ℕ, ◌+◌, ◌*◌, ◌<◌, length, get_or, pos}
-use Rattle.fzn_meaning.specs.declared.term.Term.TheVariants.{Constant}
-use Rattle.fzn_meaning.specs.Term.{number_in}
+use Rattle.fzn_values.specs.declared.term.Term.TheVariants.{Constant}
+use Rattle.fzn_values.specs.Term.{number_in}
 use Rattle.fzn_sets.specs.Terms.{MayBe}
 use Rattle.fzn_rules.proofs.global_rows.is_row_out.Given as goal
 

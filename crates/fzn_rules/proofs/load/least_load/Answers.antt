@@ -1,6 +1,6 @@
 use Rattle.std.proofs.Common.{◌≡◌, ◌∙◌, pos, ◌+ℤ◌, arith}
 use Rattle.std.proofs.lemmas.Int.{ints}
-use Rattle.fzn_meaning.specs.declared.term.Term.TheVariants.{Constant}
+use Rattle.fzn_values.specs.declared.term.Term.TheVariants.{Constant}
 use Rattle.fzn_rules.specs.Load.{least_use_at}
 use Rattle.fzn_rules.proofs.TaskLemmas.{sum_over-more, sum_over-all}
 use Rattle.fzn_rules.proofs.load.least_load.Goals as goal

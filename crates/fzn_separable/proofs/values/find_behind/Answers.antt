@@ -2,7 +2,7 @@ use Rattle.std.proofs.Common.{arith, ◌≡◌, ◌∙◌, refl, sym, ap, subst,
 use Rattle.std.proofs.lemmas.Int.{ints}
 use Rattle.fzn_domain.specs.declared.literal.Op.TheVariants.{AtLeast}
 use Rattle.fzn_meaning.specs.declared.row.Listed.{Listed}
-use Rattle.fzn_meaning.specs.declared.term.Term.TheVariants.{Variable}
+use Rattle.fzn_values.specs.declared.term.Term.TheVariants.{Variable}
 use Rattle.fzn_meaning.specs.Separable.{IsWeightList}
 use Rattle.fzn_terms.specs.declared.claim.Claim.{Claim}
 use Rattle.fzn_terms.specs.Denied.{that, IsNear}

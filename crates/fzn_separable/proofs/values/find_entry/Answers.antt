@@ -2,7 +2,7 @@ use mir.Syntax.{w128}
 use Rattle.std.proofs.Common.{rules, subst, Some, ◌≡◌, ◌∙◌, sym, ap, FitsSigned, w64, pos, ◌+ℤ◌, ℤ}
 use Rattle.std.proofs.lemmas.Int.{to_z-of_z}
 use Rattle.fzn_domain.specs.declared.literal.Op.TheVariants.{Equal}
-use Rattle.fzn_meaning.specs.declared.term.Term.TheVariants.{Variable}
+use Rattle.fzn_values.specs.declared.term.Term.TheVariants.{Variable}
 use Rattle.fzn_terms.specs.Denied.{that}
 use Rattle.fzn_separable.proofs.ClaimLemmas.{where_equal, where_barred}
 use Rattle.fzn_separable.specs.Passes.{WeighsWhere}

@@ -1,6 +1,6 @@
 use Rattle.std.proofs.Common.{List, length, All}
-use Rattle.fzn_meaning.specs.declared.term.Place.{Place}
-use Rattle.fzn_meaning.specs.Term.{IsPlace}
+use Rattle.fzn_values.specs.declared.term.Place.{Place}
+use Rattle.fzn_values.specs.Term.{IsPlace}
 use Rattle.fzn_trail.specs.Levels.{Levels}
 use Rattle.fzn_sum.specs.Explained.{AreFloors, HasFloors}
 use Rattle.fzn_sum.proofs.at_most.explain.Given as goal

@@ -1,6 +1,6 @@
 use Rattle.std.proofs.Common.{◌+◌, ℕ, List, sym, subst, ◌∙◌, pos, arith}
-use Rattle.fzn_meaning.specs.declared.term.Place.{Place}
-use Rattle.fzn_meaning.specs.declared.term.Term.TheVariants.{Constant}
+use Rattle.fzn_values.specs.declared.term.Place.{Place}
+use Rattle.fzn_values.specs.declared.term.Term.TheVariants.{Constant}
 use Rattle.fzn_sum.specs.declared.at_most.PlaceFloor.{PlaceFloor}
 use Rattle.fzn_sum.specs.Explained.{AreFloors}
 use Rattle.fzn_sum.proofs.FloorLemmas.{floors_none, floors_same, floors_push}

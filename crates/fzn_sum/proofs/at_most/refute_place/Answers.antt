@@ -1,10 +1,10 @@
 use Rattle.std.proofs.Common.{List, length, refl, sym, subst, pos, ◌+ℤ◌}
 use Rattle.std.proofs.lemmas.List.Elements.{All-get_or}
 use Rattle.fzn_domain.specs.declared.literal.Lit.{Lit}
-use Rattle.fzn_meaning.specs.declared.term.Place.{Place}
-use Rattle.fzn_meaning.specs.declared.term.Term.TheVariants.{Constant}
+use Rattle.fzn_values.specs.declared.term.Place.{Place}
+use Rattle.fzn_values.specs.declared.term.Term.TheVariants.{Constant}
 use Rattle.fzn_meaning.specs.declared.relation.Comparison.TheVariants.{AtMost}
-use Rattle.fzn_meaning.specs.Term.{IsPlace}
+use Rattle.fzn_values.specs.Term.{IsPlace}
 use Rattle.fzn_builtin_rules.specs.Linear.{least_sum}
 use Rattle.fzn_sum.specs.Refuted.{IsRefutation}
 use Rattle.fzn_sum.proofs.ClauseLemmas.{forcing}

@@ -1,8 +1,8 @@
 use Rattle.std.proofs.Common.{◌≡◌, arith, ap, sym, ◌∙◌, ℤ, pos, w64, of_z, to_z, FitsSigned}
 use Rattle.std.specs.Int.{w128}
 use Rattle.std.proofs.lemmas.Int.{ints, to_z-of_z}
-use Rattle.fzn_meaning.specs.declared.term.Place.{Place}
-use Rattle.fzn_meaning.specs.declared.term.Term.TheVariants.{Constant}
+use Rattle.fzn_values.specs.declared.term.Place.{Place}
+use Rattle.fzn_values.specs.declared.term.Term.TheVariants.{Constant}
 use Rattle.fzn_sum.proofs.ClauseLemmas.{fits_sum}
 use Rattle.fzn_sum.proofs.PinLemmas.{conflict_settled}
 use Rattle.fzn_sum.proofs.BarredLemmas.{leaves_open, leaves_other}

@@ -1,9 +1,9 @@
 use Rattle.std.proofs.Common.{◌+◌, List, length, sym, subst, ◌∙◌, pos}
 use Rattle.std.proofs.lemmas.List.Elements.{All-get_or}
 use Rattle.fzn_domain.specs.declared.literal.Lit.{Lit}
-use Rattle.fzn_meaning.specs.declared.term.Place.{Place}
-use Rattle.fzn_meaning.specs.declared.term.Term.TheVariants.{Constant}
-use Rattle.fzn_meaning.specs.Term.{IsPlace}
+use Rattle.fzn_values.specs.declared.term.Place.{Place}
+use Rattle.fzn_values.specs.declared.term.Term.TheVariants.{Constant}
+use Rattle.fzn_values.specs.Term.{IsPlace}
 use Rattle.fzn_sum.specs.Pinned.{ArePinned}
 use Rattle.fzn_sum.proofs.PinLemmas.{pins_same, pins_empty, pins_push}
 use Rattle.fzn_sum.proofs.not_equal.pins.Goals as goal

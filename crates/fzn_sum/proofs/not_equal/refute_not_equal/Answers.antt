@@ -3,9 +3,9 @@ use Rattle.std.proofs.lemmas.Int.{to_z-of_z}
 use Rattle.std.proofs.lemmas.List.Elements.{All-get_or}
 use Rattle.std.proofs.lemmas.Result.{IfOk-weaker}
 use Rattle.fzn_domain.specs.declared.literal.Lit.{Lit}
-use Rattle.fzn_meaning.specs.declared.term.Place.{Place}
-use Rattle.fzn_meaning.specs.declared.term.Term.TheVariants.{Constant}
-use Rattle.fzn_meaning.specs.Term.{IsPlace}
+use Rattle.fzn_values.specs.declared.term.Place.{Place}
+use Rattle.fzn_values.specs.declared.term.Term.TheVariants.{Constant}
+use Rattle.fzn_values.specs.Term.{IsPlace}
 use Rattle.fzn_meaning.specs.declared.relation.Comparison.TheVariants.{NotEqual}
 use Rattle.fzn_sum.specs.Pinned.{IsBarring, NoneIsBarred}
 use Rattle.fzn_sum.specs.Refuted.{IsRefutation, LeavesSome, LeavesEach}

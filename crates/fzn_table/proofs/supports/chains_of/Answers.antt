@@ -1,6 +1,6 @@
 use Rattle.std.proofs.Common.{◌+◌, ◌∙◌, ℕ, ap, length}
 use Rattle.std.proofs.lemmas.List.{length_push}
-use Rattle.fzn_meaning.specs.Term.{numbers_in}
+use Rattle.fzn_values.specs.Term.{numbers_in}
 use Rattle.fzn_table.proofs.ChainLemmas.{chained_more}
 use Rattle.fzn_table.proofs.supports.chains_of.Goals as goal
 

@@ -1,5 +1,5 @@
 use Rattle.std.proofs.Common.{◌≡◌, length}
-use Rattle.fzn_meaning.specs.Term.{numbers_in}
+use Rattle.fzn_values.specs.Term.{numbers_in}
 use Rattle.fzn_table.specs.Chains.{AreAllChained}
 use Rattle.fzn_table.proofs.supports.chains_of.Given as goal
 

@@ -1,8 +1,8 @@
 use Rattle.std.proofs.Common.{◌≡◌, ℕ, ◌+◌, ◌*◌, ◌++◌, [], ◌∷◌, ◌∙◌, ap, sym, length, arith, pos, ℤ, w64, rules, FitsSigned}
 use Rattle.std.proofs.lemmas.Int.{to_z-of_z}
 use Rattle.std.proofs.lemmas.List.{get_or-map, length-map, length_push}
-use Rattle.fzn_meaning.specs.Term.{number_in, numbers_in}
-use Rattle.fzn_meaning.specs.declared.term.Term.TheVariants.{Constant}
+use Rattle.fzn_values.specs.Term.{number_in, numbers_in}
+use Rattle.fzn_values.specs.declared.term.Term.TheVariants.{Constant}
 use Rattle.fzn_table.proofs.ChainLemmas.{column_more, place_below, whole_below}
 use Rattle.fzn_table.proofs.supports.column.Goals as goal
 

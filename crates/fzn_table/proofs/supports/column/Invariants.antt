@@ -1,5 +1,5 @@
 use Rattle.std.proofs.Common.{◌≡◌, ℕ, ◌<◌, length}
-use Rattle.fzn_meaning.specs.Term.{numbers_in}
+use Rattle.fzn_values.specs.Term.{numbers_in}
 use Rattle.fzn_table.specs.Chains.{column_at}
 use Rattle.fzn_table.specs.Supports.{number_at}
 use Rattle.fzn_table.proofs.supports.column.Given as goal

@@ -1,6 +1,6 @@
 use Rattle.std.proofs.Common.{arith}
 use borrow.Author.Count.{below_more}
-use Rattle.fzn_meaning.specs.Term.{numbers_in}
+use Rattle.fzn_values.specs.Term.{numbers_in}
 use Rattle.fzn_table.specs.Supports.{HasSupports}
 use Rattle.fzn_table.proofs.table.bar_unsupported.Goals as goal
 

@@ -1,5 +1,5 @@
 use Rattle.std.proofs.Common.{◌≡◌, []}
-use Rattle.fzn_meaning.specs.Term.{numbers_in}
+use Rattle.fzn_values.specs.Term.{numbers_in}
 use Rattle.fzn_table.specs.Supports.{AreSupported}
 use Rattle.fzn_table.specs.Passes.{AreOpenRows, AreFoundOfTable}
 use Rattle.fzn_table.proofs.table.bar_unsupported.Given as goal

@@ -1,6 +1,6 @@
 use Rattle.std.proofs.Common.{ℕ, ◌<◌, refl, sym, subst, ◌∙◌, arith, ℤ}
 use Rattle.std.proofs.lemmas.Bool.{MatchBool-at_true, MatchBool-at_false, true≢false}
-use Rattle.fzn_meaning.specs.Term.{numbers_in}
+use Rattle.fzn_values.specs.Term.{numbers_in}
 use Rattle.fzn_terms.specs.Values.{place_at}
 use Rattle.fzn_terms.specs.Denied.{that, IsDenied, IsClaimForced}
 use Rattle.fzn_table.specs.Passes.{number_in_row}

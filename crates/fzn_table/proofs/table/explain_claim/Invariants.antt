@@ -1,5 +1,5 @@
 use Rattle.std.proofs.Common.{◌/◌, ◌-◌, ◌≤◌, length}
-use Rattle.fzn_meaning.specs.Term.{numbers_in}
+use Rattle.fzn_values.specs.Term.{numbers_in}
 use Rattle.fzn_propagator.specs.Clause.{IsFalseClause, Says}
 use Rattle.fzn_table.specs.Supports.{AreMatchesOut}
 use Rattle.fzn_table.proofs.table.explain_claim.Given as goal

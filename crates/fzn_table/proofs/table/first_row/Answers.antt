@@ -1,5 +1,5 @@
 use Rattle.std.proofs.Common.{arith}
-use Rattle.fzn_meaning.specs.Term.{numbers_in}
+use Rattle.fzn_values.specs.Term.{numbers_in}
 use Rattle.fzn_table.proofs.TableLemmas.{row_below, unequal}
 use Rattle.fzn_table.proofs.table.first_row.Goals as goal
 

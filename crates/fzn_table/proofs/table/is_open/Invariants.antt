@@ -1,4 +1,4 @@
-use Rattle.fzn_meaning.specs.Term.{numbers_in}
+use Rattle.fzn_values.specs.Term.{numbers_in}
 use Rattle.fzn_table.specs.Supports.{IsOpenUpTo}
 use Rattle.fzn_table.proofs.table.is_open.Given as goal
 

@@ -1,5 +1,5 @@
 use Rattle.std.proofs.Common.{IfSome, IfNone}
-use Rattle.fzn_meaning.specs.Term.{numbers_in}
+use Rattle.fzn_values.specs.Term.{numbers_in}
 use Rattle.fzn_table.specs.Supports.{IsOutAt, IsOpenUpTo}
 use Rattle.fzn_table.proofs.table.place_out.Given as goal
 

@@ -6,7 +6,7 @@ use Rattle.fzn_domain.specs.Limits.{IsLimited}
 use Rattle.fzn_domain.specs.Literal.{negated}
 use Rattle.fzn_domain.specs.IntSet.{is_possible}
 use Rattle.fzn_domain.specs.Narrow.{set_of}
-use Rattle.fzn_meaning.specs.Term.{IsTerm}
+use Rattle.fzn_values.specs.Term.{IsTerm}
 use Rattle.fzn_terms.specs.Denied.{IsClaimExplained}
 use Rattle.fzn_terms.proofs.DeniedLemmas.{explained_constant, explained_declared, explained_push}
 use Rattle.fzn_terms.proofs.explanation.explain.Goals as goal

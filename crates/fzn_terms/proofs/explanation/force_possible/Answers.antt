@@ -6,7 +6,7 @@ use Rattle.fzn_domain.specs.Limits.{IsLimited}
 use Rattle.fzn_domain.specs.Literal.{compares, negated}
 use Rattle.fzn_domain.specs.IntSet.{is_possible}
 use Rattle.fzn_domain.specs.Narrow.{set_of}
-use Rattle.fzn_meaning.specs.Term.{IsTerm}
+use Rattle.fzn_values.specs.Term.{IsTerm}
 use Rattle.fzn_terms.specs.Denied.{IsClaimForced}
 use Rattle.fzn_terms.proofs.DeniedLemmas.{forced_constant, forced_declared, forced_push, none_constant, possible_of}
 use Rattle.fzn_terms.proofs.explanation.force_possible.Goals as goal

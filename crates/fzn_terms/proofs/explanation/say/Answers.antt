@@ -1,7 +1,7 @@
 use Rattle.std.proofs.Common.{rules, w64, to_z, of_z, FitsSigned, ℤ, ◌≡◌, ◌∷◌, [], ◌++◌, List, length, sym, ap, subst, ◌∙◌}
 use Rattle.std.proofs.lemmas.Int.{to_z-of_z}
 use Rattle.fzn_domain.specs.declared.literal.Lit.{Lit}
-use Rattle.fzn_meaning.specs.Term.{IsTerm}
+use Rattle.fzn_values.specs.Term.{IsTerm}
 use Rattle.fzn_terms.specs.Denied.{IsSaid}
 use Rattle.fzn_terms.proofs.ExplanationLemmas.{said_never, said_push}
 use Rattle.fzn_terms.proofs.explanation.say.Goals as goal

@@ -1,5 +1,5 @@
 use Rattle.std.proofs.Common.{◌++◌, ◌∷◌, [], sym, ap, ◌∙◌, List, Option, ℤ}
-use Rattle.fzn_meaning.specs.Term.{numbers_in}
+use Rattle.fzn_values.specs.Term.{numbers_in}
 use Rattle.fzn_meaning.specs.Solutions.{declared_sets}
 use Rattle.fzn_weights.proofs.TableLemmas.{blank-more}
 use Rattle.fzn_weights.proofs.tables.blank_weights.Goals as goal

@@ -1,7 +1,7 @@
 use Rattle.std.proofs.Common.{rules, arith, ◌≡◌, ◌+◌, ◌<◌, length, get_or, sym, ap, ◌∙◌, pos, FitsSigned, w64, to_z, of_z}
 use Rattle.std.proofs.lemmas.Int.{to_z-of_z}
 use Rattle.std.proofs.lemmas.List.{get_or-map, length-map}
-use Rattle.fzn_meaning.specs.Term.{number_in, numbers_in}
+use Rattle.fzn_values.specs.Term.{number_in, numbers_in}
 use Rattle.fzn_meaning.specs.Solutions.{declared_sets}
 use Rattle.fzn_weights.specs.Tables.{may_be}
 use Rattle.fzn_weights.proofs.TableLemmas.{declared-on, declared-off}

@@ -1,5 +1,5 @@
 use Rattle.std.proofs.Common.{◌≡◌, ◌+◌, drop}
-use Rattle.fzn_meaning.specs.Term.{numbers_in}
+use Rattle.fzn_values.specs.Term.{numbers_in}
 use Rattle.fzn_meaning.specs.Solutions.{declared_sets}
 use Rattle.fzn_weights.specs.Tables.{is_declared_row}
 use Rattle.fzn_weights.proofs.tables.is_declared_row.Given as goal

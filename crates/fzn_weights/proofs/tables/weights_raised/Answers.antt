@@ -2,7 +2,7 @@ use Rattle.std.proofs.Common.{rules, arith, ◌≡◌, ◌+◌, ◌*◌, ◌<◌
 use Rattle.std.specs.List.{list_all}
 use Rattle.std.proofs.lemmas.Int.{to_z-of_z}
 use Rattle.std.proofs.lemmas.Result.{err_from_is_err_and}
-use Rattle.fzn_meaning.specs.Term.{numbers_in}
+use Rattle.fzn_values.specs.Term.{numbers_in}
 use Rattle.fzn_weights.specs.Limits.{is_entry_within}
 use Rattle.fzn_weights.specs.Weights.{both_weights}
 use Rattle.fzn_weights.specs.Tables.{weights_raised}

@@ -1,6 +1,6 @@
 use Rattle.std.proofs.Common.{length, ◌∷◌, []}
 use Rattle.std.proofs.lemmas.List.Elements.{All-from_recursion}
-use Rattle.fzn_meaning.specs.Term.{IsTerm}
+use Rattle.fzn_values.specs.Term.{IsTerm}
 use Rattle.fzn_terms.specs.declared.claim.Claim.{Claim}
 use Rattle.fzn_terms.proofs.ExplanationLemmas.{justified_found}
 use Rattle.fzn_arithmetic.specs.Excluded.{rule_of}

@@ -1,6 +1,6 @@
 use Rattle.std.proofs.Common.{length, List, ◌∷◌, ◌++◌, [], sym, subst, ◌∙◌, IfOk, IfSome, Option, All}
 use Rattle.std.proofs.lemmas.List.Elements.{All-push}
-use Rattle.fzn_meaning.specs.Term.{IsTerm}
+use Rattle.fzn_values.specs.Term.{IsTerm}
 use Rattle.fzn_rules.specs.declared.rule.Rule.TheVariants as rule
 use Rattle.fzn_terms.specs.declared.claim.Claim.{Claim}
 use Rattle.fzn_terms.specs.Denied.{ExplainsClaims}

@@ -1,7 +1,7 @@
 use Rattle.std.proofs.Common.{◌∙◌, subst, arith, rules, FitsSigned, pos}
 use Rattle.std.proofs.lemmas.Int.{to_z-of_z, fits_signed_from_abs}
 use mir.Syntax.{w128}
-use Rattle.fzn_meaning.specs.Term.{IsTerm}
+use Rattle.fzn_values.specs.Term.{IsTerm}
 use Rattle.fzn_derive.specs.Room.{variables_in}
 use Rattle.fzn_derive.proofs.BoundLemmas.{product-plain, left-plain, small-fits, limits-fit}
 use Rattle.fzn_derive.proofs.RoomLemmas.{constant-adds, constant-left, variable-adds, variable-left}

@@ -6,7 +6,7 @@ use mir.Syntax.{w64, w128}
 use mir.Val.{to_z, of_z}
 use Rattle.fzn_list.specs.Limits.{longest}
 use Rattle.fzn_domain.specs.Limits.{IsSmall}
-use Rattle.fzn_meaning.specs.declared.term.Place.{Place}
+use Rattle.fzn_values.specs.declared.term.Place.{Place}
 use Rattle.fzn_meaning.specs.declared.relation.Comparison.TheVariants.{AtMost}
 use Rattle.fzn_meaning.specs.declared.constraint.Constraint.TheVariants.{Linear}
 use Rattle.fzn_derive.specs.Merged.{has_weight}

@@ -1,6 +1,6 @@
 use Rattle.std.proofs.Common.{◌≡◌, length, map, take}
 use Rattle.std.specs.List.{filter}
-use Rattle.fzn_meaning.specs.Term.{weighted}
+use Rattle.fzn_values.specs.Term.{weighted}
 use Rattle.fzn_derive.specs.Merged.{has_weight}
 use Rattle.fzn_derive.specs.Room.{sum_place}
 use Rattle.fzn_derive.proofs.adder.Adder.sum_over.Given as goal

@@ -1,7 +1,7 @@
 use Rattle.std.proofs.Common.{◌+◌, List, take, sym, subst, ◌∙◌, pos}
 use Rattle.fzn_domain.specs.declared.literal.Lit.{Lit}
-use Rattle.fzn_meaning.specs.declared.term.Term.{Term}
-use Rattle.fzn_meaning.specs.declared.term.Term.TheVariants.{Constant}
+use Rattle.fzn_values.specs.declared.term.Term.{Term}
+use Rattle.fzn_values.specs.declared.term.Term.TheVariants.{Constant}
 use Rattle.fzn_fixed.specs.Denial.{IsDenial}
 use Rattle.fzn_fixed.proofs.DenialLemmas.{denial_push, denial_same}
 use Rattle.fzn_fixed.proofs.pass.Pass.denial.Goals as goal

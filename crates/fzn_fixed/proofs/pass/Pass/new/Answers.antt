@@ -1,6 +1,6 @@
 use Rattle.std.proofs.Common.{length, List, All, Some, sym, ap, subst, ◌∙◌}
-use Rattle.fzn_meaning.specs.declared.term.Term.{Term}
-use Rattle.fzn_meaning.specs.Term.{IsTerm}
+use Rattle.fzn_values.specs.declared.term.Term.{Term}
+use Rattle.fzn_values.specs.Term.{IsTerm}
 use Rattle.fzn_fixed.proofs.MeaningLemmas.{inputs_fit, result_fits}
 use Rattle.fzn_fixed.proofs.pass.Pass.new.Goals as goal
 

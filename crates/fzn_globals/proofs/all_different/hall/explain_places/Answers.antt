@@ -2,8 +2,8 @@ use Rattle.std.proofs.Common.{ℕ, ◌+◌, pos, sym, ap, ◌∙◌}
 use Rattle.std.proofs.lemmas.Bool.{true≢false}
 use Rattle.std.proofs.lemmas.List.Sums.{count_by_more_yes, count_by_more_no}
 use Rattle.fzn_rules.specs.Hall.{lies_within}
-use Rattle.fzn_meaning.specs.declared.term.Term.{Term}
-use Rattle.fzn_meaning.specs.declared.term.Term.TheVariants.{Constant}
+use Rattle.fzn_values.specs.declared.term.Term.{Term}
+use Rattle.fzn_values.specs.declared.term.Term.TheVariants.{Constant}
 use Rattle.fzn_globals.proofs.HallLemmas.{within_step}
 use Rattle.fzn_globals.proofs.all_different.hall.explain_places.Goals as goal
 use Rattle.fzn_globals.proofs.all_different.hall.explain_places.Goals.{then-lies_within+in_ok-explain_within, else-lies_within}

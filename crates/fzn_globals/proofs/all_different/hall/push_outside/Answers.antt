@@ -2,8 +2,8 @@ use Rattle.std.proofs.Common.{List, get_or, pos, sym, subst, ◌∙◌}
 use Rattle.std.specs.List.{All}
 use Rattle.std.proofs.lemmas.List.Elements.{All-push}
 use Rattle.fzn_domain.specs.declared.literal.Lit.{Lit}
-use Rattle.fzn_meaning.specs.declared.term.Term.{Term}
-use Rattle.fzn_meaning.specs.declared.term.Term.TheVariants.{Constant}
+use Rattle.fzn_values.specs.declared.term.Term.{Term}
+use Rattle.fzn_values.specs.declared.term.Term.TheVariants.{Constant}
 use Rattle.fzn_globals.specs.Apart.{IsForcedWithin}
 use Rattle.fzn_globals.specs.DifferentPasses.{IsJustifiedByHall}
 use Rattle.fzn_globals.proofs.HallLemmas.{end_explained}

@@ -2,8 +2,8 @@ use Rattle.std.proofs.Common.{get_or, pos, ap, subst, ◌∙◌, ℤ}
 use Rattle.std.proofs.lemmas.Bool.{MatchBool-at_true, MatchBool-at_false}
 use Rattle.fzn_domain.proofs.DomainLemmas.{real}
 use Rattle.fzn_domain.specs.declared.literal.Op.TheVariants.{Equal}
-use Rattle.fzn_meaning.specs.declared.term.Term.{Term}
-use Rattle.fzn_meaning.specs.declared.term.Term.TheVariants.{Constant}
+use Rattle.fzn_values.specs.declared.term.Term.{Term}
+use Rattle.fzn_values.specs.declared.term.Term.TheVariants.{Constant}
 use Rattle.fzn_terms.specs.declared.claim.Claim.{Claim}
 use Rattle.fzn_terms.specs.Denied.{that, IsDenied, IsClaimExplained, IsClaimForced}
 use Rattle.fzn_globals.proofs.ApartLemmas.{apart_explained, not_at}

@@ -3,11 +3,11 @@ use Rattle.std.proofs.lemmas.Int.{ints}
 use Rattle.std.proofs.lemmas.Bool.{MatchBool-at_true}
 use Rattle.fzn_domain.proofs.DomainLemmas.{real}
 use Rattle.fzn_domain.specs.declared.literal.Op.TheVariants.{Equal, NotEqual}
-use Rattle.fzn_meaning.specs.Term.{IsTerm}
+use Rattle.fzn_values.specs.Term.{IsTerm}
 use Rattle.fzn_terms.specs.declared.claim.Claim.{Claim}
 use Rattle.fzn_terms.specs.Denied.{that}
 use Rattle.fzn_domain.specs.declared.literal.Lit.{Lit}
-use Rattle.fzn_meaning.specs.Entries.{IsIndex}
+use Rattle.fzn_values.specs.Entries.{IsIndex}
 use Rattle.fzn_propagator.specs.Clause.{IsJustifiedBy}
 use Rattle.fzn_globals.specs.declared.inverse.pass.Pass.{Pass}
 use Rattle.fzn_globals.specs.Ways.{IsBrokenOn, pair_rule}

@@ -1,6 +1,6 @@
 use Rattle.std.proofs.Common.{subst, to_z, w64}
 use Rattle.fzn_domain.proofs.DomainLemmas.{real}
-use Rattle.fzn_meaning.specs.declared.term.Term.{Term}
+use Rattle.fzn_values.specs.declared.term.Term.{Term}
 use Rattle.fzn_sets.specs.Terms.{term_at}
 use Rattle.fzn_terms.specs.Values.{IsNextValue}
 use Rattle.fzn_terms.proofs.NextLemmas.{next_done}

@@ -1,7 +1,7 @@
 use Rattle.std.proofs.Common.{[], ◌∷◌, ◌++◌, length, sym, ap, subst, ◌∙◌, ℤ}
 use Rattle.fzn_domain.proofs.DomainLemmas.{real}
 use Rattle.fzn_domain.specs.declared.literal.Op.TheVariants.{Equal}
-use Rattle.fzn_meaning.specs.Term.{IsTerm}
+use Rattle.fzn_values.specs.Term.{IsTerm}
 use Rattle.fzn_globals.specs.Ways.{IsMissed}
 use Rattle.fzn_globals.proofs.WayLemmas.{missed_push}
 use Rattle.fzn_globals.proofs.inverse.pairs.push_missing.Goals as goal

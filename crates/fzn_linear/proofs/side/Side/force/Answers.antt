@@ -2,7 +2,7 @@ use Rattle.std.proofs.Common.{arith, List, Option, get_or, subst, ℤ, pos, ◌�
 use Rattle.std.proofs.lemmas.Int.{ints}
 use Rattle.std.proofs.lemmas.Option.{IfSome_then}
 use Rattle.fzn_domain.specs.declared.literal.Lit.{Lit}
-use Rattle.fzn_meaning.specs.declared.term.Place.{Place}
+use Rattle.fzn_values.specs.declared.term.Place.{Place}
 use Rattle.fzn_meaning.specs.declared.relation.Comparison.TheVariants.{AtMost}
 use Rattle.fzn_propagator.specs.Inference.{IsTight, spread_of_place}
 use Rattle.fzn_sum.specs.Refuted.{IsRefutation}

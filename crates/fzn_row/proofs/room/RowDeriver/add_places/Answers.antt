@@ -1,7 +1,7 @@
 use Rattle.std.proofs.Common.{arith, ◌≡◌, ◌<◌, length, ◌∙◌, subst, pos, ◌⊎◌, Ok, Err}
 use Rattle.std.proofs.lemmas.Result.{err_from_is_err_and}
-use Rattle.fzn_meaning.specs.declared.term.Term.TheVariants.{Constant}
-use Rattle.fzn_meaning.specs.declared.term.Place.{Place}
+use Rattle.fzn_values.specs.declared.term.Term.TheVariants.{Constant}
+use Rattle.fzn_values.specs.declared.term.Place.{Place}
 use Rattle.fzn_builtin_rules.specs.Borrowed.{places_in}
 use Rattle.fzn_cited.specs.declared.fault.DeriveFault.TheVariants.{Memory}
 use Rattle.fzn_row.specs.Multiples.{place_added}

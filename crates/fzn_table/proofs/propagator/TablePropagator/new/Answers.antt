@@ -1,6 +1,6 @@
 use Rattle.std.proofs.Common.{List, ℤ, sym, subst, ◌∙◌}
-use Rattle.fzn_meaning.specs.declared.term.Term.{Term}
-use Rattle.fzn_meaning.specs.Term.{numbers_in}
+use Rattle.fzn_values.specs.declared.term.Term.{Term}
+use Rattle.fzn_values.specs.Term.{numbers_in}
 use Rattle.fzn_table.specs.Chains.{AreAllChained}
 use Rattle.fzn_table.proofs.propagator.TablePropagator.new.Goals as goal
 

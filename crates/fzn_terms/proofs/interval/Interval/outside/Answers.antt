@@ -1,5 +1,5 @@
 use Rattle.std.proofs.Common.{sym, subst}
-use Rattle.fzn_meaning.specs.Term.{IsTerm}
+use Rattle.fzn_values.specs.Term.{IsTerm}
 use Rattle.fzn_terms.proofs.interval.Interval.outside.Goals as goal
 
 pub returns-then-self-clause-terms : goal.returns-then-self-clause-terms

@@ -1,6 +1,0 @@
-use Rattle.std.proofs.Common.{◌*◌}
-use Rattle.fzn_meaning.specs.AllDifferent.{FrontDiffers}
-use Rattle.fzn_meaning.proofs.all_different.is_all_different.Given as goal
-
-abbrev pub invariant-loop-block : goal.invariant-loop-block
-invariant-loop-block l = FrontDiffers (l.block * 512) l.places

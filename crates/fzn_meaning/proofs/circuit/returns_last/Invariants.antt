@@ -1,9 +1,0 @@
-use Rattle.std.proofs.Common.{◌≡◌, ℕ, ◌≤◌, pos}
-use Rattle.fzn_meaning.specs.Circuit.{reached}
-use Rattle.fzn_meaning.proofs.circuit.returns_last.Given as goal
-
-abbrev pub invariant-loop-step : goal.invariant-loop-step
-invariant-loop-step l = record {
-  at : l.place ≡ reached l.successors l.step;
-  not_before : (k : ℕ) → 1 ≤ k → k ≤ l.step → reached l.successors k ≡ pos 1 → ⊥;
-}

@@ -1,0 +1,5 @@
+use Rattle.std.proofs.Common.{◌≡◌, ℕ, ◌<◌, pos, get_or}
+use Rattle.fzn_values.proofs.entries.Entries.contains.Given as goal
+
+abbrev pub invariant-loop-place : goal.invariant-loop-place
+invariant-loop-place l = (k : ℕ) → k < l.place → get_or l.self k (pos 0) ≡ l.value → ⊥
