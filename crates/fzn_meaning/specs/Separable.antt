@@ -13,6 +13,7 @@ use Rattle.fzn_meaning.specs.declared.row.Part.{Part}
 use Rattle.fzn_meaning.specs.declared.row.Part.TheVariants.{Variable, Table}
 use Rattle.fzn_meaning.specs.declared.row.Row.{Row}
 use Rattle.fzn_values.specs.Term.{values_of, IsTerm}
+use Rattle.fzn_values.specs.Table.{row_at}
 
 -- what is listed at a distance from the first number; none where nothing is, so that the value is barred
 abbrev pub entry_in : List (Option ℤ) → ℤ → Option ℤ
@@ -77,7 +78,12 @@ pub record IsVariablePart (count : ℕ) (part : VariablePart) : Type 0 where
   pub coefficient : IsCoefficient part.coefficient
   pub listed : IfSome part.listed IsWeightList
 
--- the places are terms over this many variables, the rows are as long as they are, and each has a weight within the limits or is barred
+-- rows of this width that are equal weigh the same
+abbrev pub WeighAlike : ℕ → List ℤ → List (Option ℤ) → Type 0
+WeighAlike width rows weights = (r s : ℕ) → r < length weights → s < length weights → row_at width rows r ≡ row_at width rows s → slice_index_or weights r None ≡ slice_index_or weights s None
+
+-- the places are terms over this many variables, the rows are as long as they are, each has a weight within the limits or is barred, and
+-- rows that are equal weigh the same
 pub record IsTablePart (count : ℕ) (table : TablePart) : Type 0 where
   pub places : All (IsTerm count) table.places
   pub some : 0 < length table.places
@@ -85,6 +91,7 @@ pub record IsTablePart (count : ℕ) (table : TablePart) : Type 0 where
   pub few : length table.rows ≤ longest
   pub one_each : length table.weights * length table.places ≡ length table.rows
   pub weights : All (λ entry. IfSome entry IsWithinLimit) table.weights
+  pub alike : WeighAlike (length table.places) table.rows table.weights
 
 abbrev pub IsPart : ℕ → Part → Type 0
 IsPart count (Variable part) = IsVariablePart count part

@@ -28,14 +28,14 @@ pub struct VariablePart {
     pub listed: Option<Listed>,
 }
 
-/// What a table weighs at the row that equals its places: what is listed for the row. Where several do, the first counts.
+/// What a table weighs at the row that equals its places: what is listed for the row. Rows that are equal weigh the same.
 #[derive(Drop)]
 pub struct TablePart {
     /// The places, of which there is one.
     pub places: Shared<Term>,
     /// The rows, one after another, each as long as the places.
     pub rows: Rows,
-    /// A number for each row, from -10^18 to 10^18, or none for one that is barred.
+    /// A number for each row, from -10^18 to 10^18, or none for one that is barred; the same for rows that are equal.
     pub weights: Items<Option<i64>>,
 }
 
