@@ -1,8 +1,8 @@
 -- What a table weighs at its rows, at least and where its places are fixed.
-use Rattle.std.proofs.Common.{rules, ◌≡◌, ◌⊎◌, ℕ, zero, suc, ◌+◌, ◌*◌, ◌<◌, ◌≤◌, List, [], ◌∷◌, Bool, true, false, ◌&&◌, length, drop, get_or, refl, sym, ap, subst, ◌∙◌, inl, inr, arith, ℤ, pos, ◌≤ℤ◌, ◌<ℤ◌, All, Option, None, Some, IfSome}
+use Rattle.std.proofs.Common.{rules, ◌≡◌, ◌⊎◌, ℕ, zero, suc, ◌+◌, ◌*◌, ◌<◌, ◌≤◌, List, [], ◌∷◌, Bool, true, false, ◌&&◌, length, drop, get_or, refl, sym, ap, subst, ◌∙◌, inl, inr, arith, ℤ, pos, ◌≤ℤ◌, ◌<ℤ◌, Option, None, Some, IfSome}
 use Rattle.std.specs.Ordering.{int_eq}
 use Rattle.std.proofs.lemmas.Int.{ints}
-use Rattle.std.proofs.lemmas.Bool.{false≢true, and_parts, cases_lt, cases_Bool}
+use Rattle.std.proofs.lemmas.Bool.{false≢true, cases_lt, cases_Bool}
 use Rattle.std.proofs.lemmas.Bool.Decides.{Decides-int_eq}
 use Rattle.std.proofs.lemmas.List.{get_or-drop, length-drop}
 use Rattle.fzn_domain.specs.IntSet.{IntSet, contains}
@@ -12,18 +12,17 @@ use Rattle.fzn_values.specs.declared.term.Term.TheVariants.{Constant, Variable}
 use Rattle.fzn_meaning.specs.declared.row.TablePart.{TablePart}
 use Rattle.fzn_meaning.specs.declared.row.Part.{Part}
 use Rattle.fzn_meaning.specs.declared.row.Part.TheVariants as parts
-use Rattle.fzn_values.specs.Term.{term_value, values_of}
-use Rattle.fzn_meaning.specs.Separable.{begins_with, row_weight, IsPart, IsTablePart}
+use Rattle.fzn_values.specs.Term.{values_of}
+use Rattle.fzn_meaning.specs.Separable.{begins_with, row_weight, weight_of, WeighAlike, IsPart, IsTablePart}
 use Rattle.fzn_values.proofs.CallerLemmas.{length-values_of, get_or-values_of}
-use Rattle.fzn_meaning.proofs.TableWeightLemmas.{row_weight-at, row_weight-on}
+use Rattle.fzn_meaning.proofs.TableWeightLemmas.{begins-take, row_weight-at, row_weight-on}
 use Rattle.fzn_rules.specs.GlobalRows.{MayBeRow}
-use Rattle.fzn_rules.specs.Separable.{IsLeastOf, IsWeightIn}
+use Rattle.fzn_rules.specs.Separable.{IsLeastOf, IsWeightIn, IsLeastWeight}
 use Rattle.fzn_sets.specs.Terms.{MayBe}
 use Rattle.fzn_sets.proofs.ValueLemmas.{some_value}
 use Rattle.fzn_trail.specs.Levels.{Levels}
-use Rattle.fzn_terms.specs.Values.{IsFixed}
-use Rattle.fzn_terms.proofs.FixedLemmas.{fixed_only, fixed_ends, now_fit}
-use Rattle.fzn_levels.specs.Levels.{Reaches, WeighsWhereFixed}
+use Rattle.fzn_terms.proofs.FixedLemmas.{fixed_only}
+use Rattle.fzn_levels.specs.Levels.{Reaches}
 use Rattle.fzn_levels.proofs.WeightLemmas.{some_is, least-same, some_value_least}
 
 -- ---- the least weight of the first rows
@@ -152,19 +151,23 @@ some_least sets (parts.Table table) filled formed = some_before sets table (leng
 abbrev pub StandsAt : List ℤ → List ℤ → ℕ → Bool
 StandsAt xs rows r = begins_with xs (drop (r * length xs) rows)
 
--- the first row that equals the values counts
-module _ (xs rows : List ℤ) (weights : List (Option ℤ)) where
-  passed : (r : ℕ) → r < length weights → ((s : ℕ) → s < r → StandsAt xs rows s ≡ false) → row_weight xs rows weights ≡ row_weight xs (drop (r * length xs) rows) (drop r weights)
-  passed zero inside before =
-      let start : 0 * length xs ≡ 0 = omega arith in
-      ap (λ (n : ℕ). row_weight xs (drop n rows) weights) (sym start)
-  passed (suc r) inside before =
-      let next : r + 1 ≡ suc r = omega arith in
-      subst (λ (n : ℕ). row_weight xs rows weights ≡ row_weight xs (drop (n * length xs) rows) (drop n weights)) next
-      (passed r (omega arith) (λ s below. before s (omega arith)) ∙ row_weight-on xs rows weights r (omega arith) (before r (omega arith)))
+-- the table weighs what is listed for any row that equals the values
+module _ (xs rows : List ℤ) (weights : List (Option ℤ)) (alike : WeighAlike (length xs) rows weights) (r : ℕ) (inside : r < length weights) (here : StandsAt xs rows r ≡ true) where
+  from_row : (d s : ℕ) → s + d ≡ r → row_weight xs (drop (s * length xs) rows) (drop s weights) ≡ get_or weights r None
+  from_row zero s reach =
+      let same : r ≡ s = omega arith in
+      subst (λ (n : ℕ). row_weight xs (drop (n * length xs) rows) (drop n weights) ≡ get_or weights r None) same (row_weight-at xs rows weights r inside here)
+  from_row (suc d) s reach = elim (cases_Bool (StandsAt xs rows s)) [
+    | inl stands ↦
+        row_weight-at xs rows weights s (omega arith) stands
+        ∙ alike s r (omega arith) inside (begins-take xs (drop (s * length xs) rows) stands ∙ sym (begins-take xs (drop (r * length xs) rows) here))
+    | inr off ↦ row_weight-on xs rows weights s (omega arith) off ∙ from_row d (s + 1) (omega arith)
+  ]
 
-  first_counts : (r : ℕ) → r < length weights → StandsAt xs rows r ≡ true → ((s : ℕ) → s < r → StandsAt xs rows s ≡ false) → row_weight xs rows weights ≡ get_or weights r None
-  first_counts r inside here before = passed r inside before ∙ row_weight-at xs rows weights r inside here
+  weighs_listed : row_weight xs rows weights ≡ get_or weights r None
+  weighs_listed =
+      let start : 0 * length xs ≡ 0 = omega arith in
+      ap (λ (n : ℕ). row_weight xs (drop n rows) weights) (sym start) ∙ from_row r 0 refl
 
 -- a list begins with another where each entry is the same
 begins-same : (xs ys : List ℤ) → length xs ≤ length ys → ((k : ℕ) → k < length xs → get_or ys k (pos 0) ≡ get_or xs k (pos 0)) → begins_with xs ys ≡ true
@@ -172,12 +175,6 @@ begins-same [] ys few same = refl
 begins-same (x ∷ xs) [] few same = absurd (omega arith)
 begins-same (x ∷ xs) (y ∷ ys) few same =
     ap (λ (b : Bool). b && begins_with xs ys) ((Decides-int_eq y x).1 (same 0 (omega arith))) ∙ begins-same xs ys (omega arith) (λ k below. same (suc k) (omega arith))
-
-same-begins : (xs ys : List ℤ) → begins_with xs ys ≡ true → (k : ℕ) → k < length xs → get_or ys k (pos 0) ≡ get_or xs k (pos 0)
-same-begins [] ys is k below = absurd (omega arith)
-same-begins (x ∷ xs) [] is k below = absurd (false≢true is)
-same-begins (x ∷ xs) (y ∷ ys) is zero below = (Decides-int_eq y x).0 (and_parts (int_eq y x) (begins_with xs ys) is).0
-same-begins (x ∷ xs) (y ∷ ys) is (suc k) below = same-begins xs ys (and_parts (int_eq y x) (begins_with xs ys) is).1 k (omega arith)
 
 pub row_whole : (r count width size : ℕ) → r < count → count * width ≡ size → r * width + width ≤ size
 row_whole r count width size below is =
@@ -202,31 +199,11 @@ module _ (sets : List IntSet) (values : List ℤ) (within : IsWithin sets values
       ∙ (fixed_only sets values within fixed (get_or table.places k e) (formed.places k e k_below)).only (get_or table.rows (r * length table.places + k) (pos 0)) (may k k_below)
       ∙ sym (get_or-values_of values table.places k (pos 0) e k_below)))
 
-  stands-not : (r : ℕ) → (MayBeRow sets table.places table.rows r → ⊥) → StandsAt (values_of values table.places) table.rows r ≡ false
-  stands-not r out = elim (cases_Bool (StandsAt (values_of values table.places) table.rows r)) [
-    | inr off ↦ off
-    | inl on ↦
-        let xs = values_of values table.places in
-        let count : length xs ≡ length table.places = length-values_of values table.places in
-        let begins = subst (λ (n : ℕ). begins_with (values_of values table.places) (drop (r * n) table.rows) ≡ true) count on in
-        absurd (out (λ k below.
-        let e : Term = Constant (pos 0) in
-        let only = fixed_only sets values within fixed (get_or table.places k e) (formed.places k e below) in
-        let same : get_or table.rows (r * length table.places + k) (pos 0) ≡ term_value values (get_or table.places k e) =
-        sym (get_or-drop (r * length table.places) table.rows k (pos 0)) ∙ same-begins xs (drop (r * length table.places) table.rows) begins k (omega (arith, count, below)) ∙ get_or-values_of values table.places k (pos 0) e below in
-        subst (MayBe sets (get_or table.places k e)) (sym same) only.member))
-  ]
-
-  first_row : (r : ℕ) (weight : ℤ) → r < length table.weights → MayBeRow sets table.places table.rows r → ((s : ℕ) → s < r → MayBeRow sets table.places table.rows s → ⊥) → get_or table.weights r None ≡ Some weight → row_weight (values_of values table.places) table.rows table.weights ≡ Some weight
-  first_row r weight inside may before is =
-      first_counts (values_of values table.places) table.rows table.weights r inside (stands r inside may) (λ s below. stands-not s (before s below)) ∙ is
-
-module _ (trail : Levels) (table : TablePart) (formed : IsTablePart (length trail.declared) table) where
-  pub weighs-first : (r : ℕ) (weight : ℤ) → r < length table.weights → MayBeRow trail.sets table.places table.rows r → ((s : ℕ) → s < r → MayBeRow trail.sets table.places table.rows s → ⊥) → get_or table.weights r None ≡ Some weight → WeighsWhereFixed trail (parts.Table table) weight
-  weighs-first r weight inside may before is = λ fixed values declared present.
-      first_row trail.sets values present fixed table (subst (λ (n : ℕ). IsTablePart n table) (sym declared.one_each ∙ present.one_each) formed) r weight inside may before is
-
-  -- where the places are not fixed, not all variables are
-  pub weighs-unfixed : (weight : ℤ) → (All (IsFixed trail.sets) table.places → ⊥) → WeighsWhereFixed trail (parts.Table table) weight
-  weighs-unfixed weight unfixed = λ fixed values declared present.
-      absurd (unfixed (λ k e below. fixed_ends trail.sets values present fixed (get_or table.places k e) (now_fit trail values table.places declared present formed.places k e below)))
+-- a table weighs its one weight
+pub table_fixed : (trail : Levels) (table : TablePart) (least : ℤ) → IsTablePart (length trail.declared) table → IsLeastWeight trail.sets (parts.Table table) (Some least) → AllFixed trail.sets → (values : List ℤ) → IsWithin trail.declared values → IsWithin trail.sets values → weight_of values (parts.Table table) ≡ Some least
+table_fixed trail table least formed is fixed values declared present =
+    let xs = values_of values table.places in
+    let now = subst (λ (n : ℕ). IsTablePart n table) (sym declared.one_each ∙ present.one_each) formed in
+    let at = is.0 in
+    weighs_listed xs table.rows table.weights (subst (λ (n : ℕ). WeighAlike n table.rows table.weights) (sym (length-values_of values table.places)) formed.alike) at.0 at.2 (stands trail.sets values present fixed table now at.0 at.2 at.1)
+    ∙ at.3

@@ -6,7 +6,7 @@ use Rattle.fzn_domain.specs.declared.literal.VarId.{VarId}
 use Rattle.fzn_domain.specs.declared.literal.Lit.{Lit}
 use Rattle.fzn_domain.specs.Literal.{is_true_at}
 use Rattle.fzn_domain.specs.IntSet.{IntSet, contains}
-use Rattle.fzn_domain.specs.Narrow.{set_of, AllFixed, IsWithin}
+use Rattle.fzn_domain.specs.Narrow.{set_of}
 use Rattle.fzn_values.specs.declared.term.Term.TheVariants.{Constant}
 use Rattle.fzn_meaning.specs.declared.row.Listed.{Listed}
 use Rattle.fzn_meaning.specs.declared.row.VariablePart.{VariablePart}
@@ -14,7 +14,7 @@ use Rattle.fzn_meaning.specs.declared.row.TablePart.{TablePart}
 use Rattle.fzn_meaning.specs.declared.row.Part.{Part}
 use Rattle.fzn_meaning.specs.declared.row.Part.TheVariants.{Variable, Table}
 use Rattle.fzn_meaning.specs.declared.row.Row.{Row}
-use Rattle.fzn_meaning.specs.Separable.{weight_at, weight_of, IsPart, AreApart, IsSeparableRow}
+use Rattle.fzn_meaning.specs.Separable.{weight_at, IsPart, AreApart, IsSeparableRow}
 use Rattle.fzn_rules.specs.GlobalRows.{MayBeRow}
 use Rattle.fzn_rules.specs.Separable.{IsWeightIn, IsLeastWeight}
 use Rattle.fzn_sets.specs.Terms.{MayBe}
@@ -101,8 +101,3 @@ pub record AreEnough (except : ℕ) (leasts levels : List ℤ) (bound : ℤ) : T
   pub one_each : length levels ≡ length leasts
   pub below : (k : ℕ) (none : ℤ) → k < length leasts → k ≢ except → slice_index_or levels k none ≤ℤ slice_index_or leasts k none
   pub over : bound <ℤ sum_of levels
-
--- where all variables are fixed, the part weighs so much
-abbrev pub WeighsWhereFixed : Levels → Part → ℤ → Type 0
-WeighsWhereFixed trail part weight =
-    AllFixed trail.sets → (values : List ℤ) → IsWithin trail.declared values → IsWithin trail.sets values → weight_of values part ≡ Some weight

@@ -9,7 +9,6 @@
 pub use choice::{are_enough, levels_of};
 pub use explain::{explain_levels, explain_part, narrowed};
 pub use pass::Pass;
-pub use tables::weighs_where_fixed;
 pub use weights::{entry_weight, least_value_weight, least_weight, sum_of, value_at};
 
 mod choice;

@@ -2,18 +2,14 @@
 ghost use Rattle.std.specs.Prelude.{◌≡◌, ◌↔◌, ℕ, ◌+◌, ◌*◌, ◌<◌, pos, IsTrue, IfSome, None, length, slice_index_or};
 ghost use Rattle.std.specs.List.{All};
 ghost use Rattle.fzn_domain.specs.Limits.{IsInLimits};
-ghost use Rattle.fzn_domain.specs.Narrow.{NoneEmpty};
-ghost use Rattle.fzn_meaning.specs.declared.row.Part.TheVariants.{Table};
 ghost use Rattle.fzn_meaning.specs.Separable.{IsTablePart, IsWithinLimit};
 ghost use Rattle.fzn_rules.specs.GlobalRows.{MayBeRow};
 ghost use Rattle.fzn_rules.specs.Separable.{IsLeastOf, IsTableWeightIn};
-ghost use Rattle.fzn_levels.specs.Levels.{IsWeight, WeighsWhereFixed};
+ghost use Rattle.fzn_levels.specs.Levels.{IsWeight};
 
 use crate::weights::is_light;
 use fzn_meaning::TablePart;
 use fzn_sets::{Sets, may_be};
-use fzn_terms::are_fixed;
-use fzn_trail::Trail;
 
 /// What is listed for row r, counted from 0. `None` where it is barred.
 pub(crate) fn row_weight(table: &TablePart, r: usize) -> Option<i128>
@@ -67,24 +63,4 @@ pub(crate) fn least_row(table: &TablePart, sets: &Sets) -> Option<i128>
         }
     }
     least
-}
-
-/// Whether the table weighs so much where its places are fixed, since the first row that equals them does. Where one is not fixed, it is so.
-pub fn weighs_where_fixed(table: &TablePart, trail: &Trail, weight: i128) -> bool
-    requires table { IsTablePart (length trail.now.declared) table.now }
-    requires filled { NoneEmpty trail.now.sets }
-    ensures { IsTrue result → WeighsWhereFixed trail.now (Table table.now) weight }
-{
-    if !are_fixed(trail, table.places.as_slice()) {
-        return true;
-    }
-    for r in 0..table.weights.len() {
-        if may_be_row(table, trail.sets(), r) {
-            return match row_weight(table, r) {
-                Some(found) => found == weight,
-                None => false,
-            };
-        }
-    }
-    false
 }

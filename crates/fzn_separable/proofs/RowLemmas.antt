@@ -8,26 +8,24 @@ use Rattle.fzn_meaning.specs.declared.row.VariablePart.{VariablePart}
 use Rattle.fzn_meaning.specs.declared.row.Part.{Part}
 use Rattle.fzn_meaning.specs.declared.row.Part.TheVariants as parts
 use Rattle.fzn_meaning.specs.declared.row.Row.{Row}
-use Rattle.fzn_values.specs.declared.term.Term.TheVariants.{Variable}
 use Rattle.fzn_meaning.specs.declared.constraint.Constraint.{Constraint}
 use Rattle.fzn_meaning.specs.declared.constraint.Constraint.TheVariants as constraint
-use Rattle.fzn_values.specs.Term.{IsTerm}
-use Rattle.fzn_meaning.specs.Separable.{weight_at, weight_of, total_weight, IsVariablePart, IsSeparableRow}
+use Rattle.fzn_meaning.specs.Separable.{weight_of, total_weight, IsSeparableRow}
 use Rattle.fzn_meaning.specs.Meaning.{Meets}
 use Rattle.fzn_builtin_rules.specs.Form.{form_of}
 use Rattle.fzn_rules.specs.declared.rule.Rule.TheVariants as rule
 use Rattle.fzn_rules.specs.Rules.{IsMet}
-use Rattle.fzn_rules.specs.Separable.{IsLeastWeight, IsSeparableMet}
+use Rattle.fzn_rules.specs.Separable.{IsSeparableMet}
 use Rattle.fzn_trail.specs.Levels.{Levels}
 use Rattle.fzn_propagator.specs.Clause.{IsForcing, Says, IsJustified}
 use Rattle.fzn_propagator.specs.Inference.{HoldsWhereFixed, IsInferredOut}
 use Rattle.fzn_propagator.proofs.CallerLemmas.{justified_where, forcing_of_false, exhausted}
 use Rattle.fzn_terms.specs.declared.claim.Claim.{Claim}
 use Rattle.fzn_terms.specs.Denied.{IsClaimForced}
-use Rattle.fzn_terms.proofs.FixedLemmas.{fixed_only}
 use Rattle.std.proofs.lemmas.Bool.{cases_eq}
 use Rattle.std.proofs.Common.{inl, inr}
-use Rattle.fzn_levels.specs.Levels.{sum_of, IsNoLighter, SaysNoLighter, SaysAllNoLighter, AreLeasts, WeighsWhereFixed}
+use Rattle.fzn_levels.specs.Levels.{sum_of, IsNoLighter, SaysNoLighter, SaysAllNoLighter, AreLeasts}
+use Rattle.fzn_levels.proofs.CallerLemmas.{least_fixed}
 use Rattle.fzn_separable.specs.Passes.{WeighsWhere}
 use Rattle.fzn_separable.proofs.TotalLemmas.{met_above, met_barred}
 
@@ -73,14 +71,6 @@ module _ (trail : Levels) (row : Row) (formed : IsSeparableRow (length trail.dec
 
 -- ---- where all variables are fixed
 
--- a variable weighs its one weight
-pub variable_fixed : (trail : Levels) (part : VariablePart) (least : ℤ) → IsVariablePart (length trail.declared) part → IsLeastWeight trail.sets (parts.Variable part) (Some least) → WeighsWhereFixed trail (parts.Variable part) least
-variable_fixed trail part least formed is fixed values declared present =
-    let fits : IsTerm (length trail.sets) (Variable part.var) = subst (λ (n : ℕ). IsTerm n (Variable part.var)) (sym declared.one_each ∙ present.one_each) formed.variable in
-    let only = fixed_only trail.sets values present fixed (Variable part.var) fits in
-    let at = is.0 in
-    ap (weight_at part) (sym (only.only at.0 at.1)) ∙ at.2
-
 weighs : (values : List ℤ) (parts : List Part) (leasts : List ℤ) → length leasts ≡ length parts → ((k : ℕ) (p : Part) (d : ℤ) → k < length leasts → weight_of values (get_or parts k p) ≡ Some (get_or leasts k d)) → All (λ (part : Part). IsSome (weight_of values part)) parts × (total_weight values parts ≡ sum_of leasts)
 unfolding total_weight
 weighs values [] [] count each = (All-nil (λ (part : Part). IsSome (weight_of values part)), refl)
@@ -97,10 +87,12 @@ weighs values (part ∷ parts) (x ∷ leasts) count each =
     total_is w least others rest e f = ap (λ (o : Option ℤ). unwrap_or o (pos 0) +ℤ others) e ∙ ap (λ (x : ℤ). least +ℤ x) f
 
 -- the least weights come to no more than the bound, and the parts weigh these where all variables are fixed
-pub row_met : (trail : Levels) (row : Row) (leasts : List ℤ) → AreLeasts trail.sets row.parts leasts → ((k : ℕ) (p : Part) (d : ℤ) → k < length leasts → WeighsWhereFixed trail (get_or row.parts k p) (get_or leasts k d)) → sum_of leasts ≤ℤ row.bound → HoldsWhereFixed trail (constraint.Row row)
+pub row_met : (trail : Levels) (row : Row) → IsSeparableRow (length trail.declared) row → (leasts : List ℤ) → AreLeasts trail.sets row.parts leasts → sum_of leasts ≤ℤ row.bound → HoldsWhereFixed trail (constraint.Row row)
 unfolding Meets
-row_met trail row leasts are each room fixed values declared present =
-    let weighed = weighs values row.parts leasts are.one_each (λ k p d below. each k p d below fixed values declared present) in
+row_met trail row formed leasts are room fixed values declared present =
+    let weighed = weighs values row.parts leasts are.one_each (λ k p d below.
+    let inside : k < length row.parts = omega (arith, below, are.one_each) in
+    least_fixed trail (get_or row.parts k p) (get_or leasts k d) (formed.parts k p inside) (are.each k p d below) fixed values declared present) in
     record { none_barred = weighed.0; most = no_more (total_weight values row.parts) (sum_of leasts) row.bound weighed.1 room }
   where
     no_more : (a b c : ℤ) → a ≡ b → b ≤ℤ c → a ≤ℤ c

@@ -12,7 +12,7 @@ use Rattle.fzn_meaning.specs.declared.row.Row.{Row}
 use Rattle.fzn_meaning.specs.Separable.{IsPart, IsSeparableRow}
 use Rattle.fzn_rules.specs.Separable.{IsLeastWeight, IsLeastTotal, IsSeparableMet}
 use Rattle.fzn_trail.specs.Levels.{Levels}
-use Rattle.fzn_levels.specs.Levels.{IsWeight, sum_of, IsNoLighter, AreNoLighterBut, AreLeasts, AreEnough, WeighsWhereFixed}
+use Rattle.fzn_levels.specs.Levels.{IsWeight, sum_of, IsNoLighter, AreNoLighterBut, AreLeasts, AreEnough}
 use Rattle.fzn_levels.proofs.CallerLemmas.{some_least, of_least, least_above}
 
 -- ---- least weights one after the other
@@ -127,20 +127,3 @@ part_at parts items k part inside same is default = get_or_default parts k defau
 
 pub formed_at : (parts : List Part) (count k : ℕ) (part : Part) → All (IsPart count) parts → k < length parts → ((default : Part) → get_or parts k default ≡ part) → IsPart count part
 formed_at parts count k part formed inside at = subst (IsPart count) (at part) (formed k part inside)
-
--- ---- where all variables are fixed
-
--- one more part, which weighs what it weighs at least
-module _ (trail : Levels) (parts : List Part) (leasts : List ℤ) where
-  abbrev pub WeighBefore : ℕ → Type 0
-  WeighBefore count = (k : ℕ) (p : Part) (d : ℤ) → k < count → WeighsWhereFixed trail (get_or parts k p) (get_or leasts k d)
-
-  pub weigh-more : (i : ℕ) (part : Part) (least : ℤ) → i < length leasts → ((p : Part) → get_or parts i p ≡ part) → ((d : ℤ) → get_or leasts i d ≡ least) → WeighBefore i → WeighsWhereFixed trail part least → WeighBefore (i + 1)
-  weigh-more i part least inside at is before here k p d below = elim (cases_lt k i) [
-    | inl earlier ↦ before k p d earlier
-    | inr past ↦
-        let same : i ≡ k = omega arith in
-        subst (λ (n : ℕ). WeighsWhereFixed trail (get_or parts n p) (get_or leasts n d)) same
-        (subst (λ (q : Part). WeighsWhereFixed trail q (get_or leasts i d)) (sym (at p))
-        (subst (λ (x : ℤ). WeighsWhereFixed trail part x) (sym (is d)) here))
-  ]

@@ -1,22 +1,15 @@
 // What a pass looks for: that the parts weigh too much, and else values that weigh too much beside the others.
-ghost use Rattle.std.specs.Prelude.{◌≡◌, ◌≢◌, ℕ, ℤ, ◌<◌, ◌<ℤ◌, ◌≤◌, [], None, Some, length, IsTrue, OnOk};
-ghost use Rattle.fzn_list.specs.Limits.{longest};
+ghost use Rattle.std.specs.Prelude.{◌≡◌, ◌≢◌, ◌<◌, ◌<ℤ◌, [], None, length, slice_index_or, OnOk};
 ghost use Rattle.fzn_meaning.specs.declared.row.Part.{Part};
-ghost use Rattle.fzn_meaning.specs.Separable.{IsPart};
-ghost use Rattle.std.specs.Prelude.{slice_index_or};
 ghost use Rattle.fzn_rules.specs.Separable.{IsLeastWeight};
 ghost use Rattle.fzn_propagator.specs.Inference.{HoldsWhereFixed};
-ghost use Rattle.fzn_levels.specs.Levels.{AreNoLighterBut, WeighsWhereFixed, sum_of};
+ghost use Rattle.fzn_levels.specs.Levels.{AreNoLighterBut, sum_of};
 ghost use Rattle.fzn_separable.specs.Passes.{constraint_of, AreFoundOfRow, AreLeastsOf};
 
 use crate::values::find_values;
 use fzn_domain::Memory;
-use fzn_levels::{
-    Pass, are_enough, explain_levels, explain_part, least_weight, levels_of, sum_of,
-    weighs_where_fixed,
-};
+use fzn_levels::{Pass, are_enough, explain_levels, explain_part, least_weight, levels_of, sum_of};
 use fzn_list::Items;
-use fzn_meaning::Part;
 use fzn_propagator::Findings;
 use fzn_rules::Rule;
 
@@ -64,35 +57,7 @@ fn find_by_leasts(pass: &Pass, leasts: &[i128], found: &mut Findings) -> Result<
     for k in 0..leasts.len() {
         find_values(pass, leasts, total, k, found)?;
     }
-    if !weigh_where_fixed(pass, leasts) {
-        return Err(Memory); // Not reached: rows of a table that are equal weigh the same.
-    }
     Ok(())
-}
-
-/// Whether each part weighs what it weighs at least, where all variables are fixed.
-fn weigh_where_fixed(pass: &Pass, leasts: &[i128]) -> bool
-    requires { AreLeastsOf pass.now leasts.now }
-    ensures { IsTrue result → (k : ℕ) (default : Part) (none : ℤ) → k < length leasts.now → WeighsWhereFixed pass.now.trail.now (slice_index_or pass.now.row.now.parts k default) (slice_index_or leasts.now k none) }
-{
-    for k in 0..leasts.len() {
-        if !weighs_least(pass, &pass.row.parts.as_slice()[k], leasts[k]) {
-            return false;
-        }
-    }
-    true
-}
-
-/// Whether the part, which weighs so much at least, weighs so much where all variables are fixed. A variable does.
-fn weighs_least(pass: &Pass, part: &Part, least: i128) -> bool
-    requires part { IsPart (length pass.now.trail.now.declared) part.now }
-    requires least { IsLeastWeight pass.now.trail.now.sets part.now (Some least) }
-    ensures { IsTrue result → WeighsWhereFixed pass.now.trail.now part.now least }
-{
-    match part {
-        Part::Variable(_) => true,
-        Part::Table(table) => weighs_where_fixed(table, pass.trail, least),
-    }
 }
 
 /// Finds that the parts weigh more than the bound at least.

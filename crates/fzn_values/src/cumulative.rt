@@ -9,12 +9,7 @@ use crate::load_profile::{BLOCK, is_kept_by_profile};
 
 /// Whether the capacity is kept at every time. It is enough to look at the starts. Each block of 8,192 of them takes one pass over all
 /// tasks, in which a task's start and end are found among those of the block by binary search.
-pub fn is_cumulative(
-    starts: &Entries,
-    durations: &Entries,
-    uses: &Entries,
-    capacity: i64,
-) -> bool
+pub fn is_cumulative(starts: &Entries, durations: &Entries, uses: &Entries, capacity: i64) -> bool
     requires durations { length durations.now ≡ length starts.now }
     requires uses { length uses.now ≡ length starts.now }
     requires short { length starts.now ≤ longest }

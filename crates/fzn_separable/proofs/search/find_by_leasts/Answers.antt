@@ -18,5 +18,5 @@ returns-clause-none c = λ nothing.
     let is = c.sum_of-total.ensures in
     let fits : FitsSigned w128 c.sum_of-total.result = search rules in
     let cast : to_z w128 (of_z w128 (to_z w64 (of_z w64 c.args.pass.now.row.now.bound))) ≡ c.args.pass.now.row.now.bound = omega (arith, ints, bound) in
-    row_met c.args.pass.now.trail.now c.args.pass.now.row.now c.args.leasts.now c.requires.leasts (c.weigh_where_fixed.ensures c.if-not-weigh_where_fixed.false)
+    row_met c.args.pass.now.trail.now c.args.pass.now.row.now c.args.pass.now.ready c.args.leasts.now c.requires.leasts
     (no_over _ _ c.args.pass.now.row.now.bound (sum_of c.args.leasts.now) cast (to_z-of_z w128 c.sum_of-total.result fits ∙ is) c.if-pass-total.false)
