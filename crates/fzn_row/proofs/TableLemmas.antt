@@ -1,7 +1,8 @@
 -- The parts of tables among others.
-use Rattle.std.proofs.Common.{◌≡◌, ◌≢◌, ℕ, zero, suc, ◌%◌, ◌<◌, ◌≤◌, Bool, true, false, cond, eqb, List, [], ◌∷◌, ◌++◌, length, get_or, set, refl, sym, ap, ◌∙◌, subst, inl, inr, arith, ℤ, pos, ◌-ℤ◌, Option, None, Some, Result, Ok, Err, All}
+use Rattle.std.proofs.Common.{◌≡◌, ◌≢◌, ℕ, zero, suc, ◌*◌, ◌/◌, ◌%◌, ◌<◌, ◌≤◌, Bool, true, false, cond, eqb, List, [], ◌∷◌, ◌++◌, length, get_or, set, refl, sym, ap, ◌∙◌, subst, inl, inr, arith, ℤ, pos, ◌-ℤ◌, Option, None, Some, Result, Ok, Err, All}
 use Rattle.std.specs.List.{list_all}
 use Rattle.std.specs.Option.{option_map_or}
+use Rattle.std.proofs.lemmas.Nat.{div-add-mod'}
 use Rattle.std.proofs.lemmas.Bool.{eq-eqb, ne_eqb, eqb-false, cases_eq}
 use Rattle.std.proofs.lemmas.List.{get_or_push, get_or_default, get_or_append_left, get_or-set_same, get_or-set_other, length_push, length-set}
 use Rattle.std.proofs.lemmas.List.Elements.{All-nil, All-cons, All-head, All-tail, All-set, All-push}
@@ -19,17 +20,18 @@ use Rattle.fzn_meaning.specs.declared.row.TablePart.{TablePart}
 use Rattle.fzn_meaning.specs.declared.constraint.Constraint.{Constraint}
 use Rattle.fzn_meaning.specs.declared.constraint.Constraint.TheVariants as constraint
 use Rattle.fzn_meaning.specs.Meaning.{IsWellFormedConstraint, AreTerms}
-use Rattle.fzn_meaning.specs.Separable.{weight_at, IsTablePart}
+use Rattle.fzn_meaning.specs.Separable.{weight_at}
 use Rattle.fzn_weights.specs.Prices.{price_at}
 use Rattle.fzn_weights.specs.Limits.{is_entry_within}
 use Rattle.fzn_weights.specs.Moves.{moved_from, span, is_narrow}
 use Rattle.fzn_weights.specs.Tables.{blank_table, row_count, part_raised}
+use Rattle.fzn_weights.proofs.TableLemmas.{length-blank}
 use Rattle.fzn_row.specs.declared.room.BegunTable.{BegunTable}
 use Rattle.fzn_row.specs.Draft.{Draft, blank_part, part_for, with_part, and_then}
 use Rattle.fzn_row.specs.Prices.{with_list}
 use Rattle.fzn_row.specs.Weights.{without_part}
 use Rattle.fzn_row.specs.Tables.{table_of, with_table, table_begun, weights_spent, table_raised, term_lowered, part_to_rows}
-use Rattle.fzn_row.specs.Room.{AreBegun, IsPlaceOfTable}
+use Rattle.fzn_row.specs.Room.{IsTableKept, AreBegun, IsPlaceOfTable}
 
 -- ---- where the part of a table stands
 
@@ -74,7 +76,7 @@ none-others id (begun ∷ tables) none = pick (eqb begun.constraint id) refl non
     pick true e n rest = absurd (cc)
     pick false e n rest = All-cons (λ (b : BegunTable). b.constraint ≢ id) begun tables (eqb-false begun.constraint id e) (rest n)
 
-module _ (count id slot : ℕ) (slots : List ℕ) (tables : List BegunTable) (begun : AreBegun count slots tables) (is : slot ≡ get_or slots id 0) where
+module _ (id slot : ℕ) (slots : List ℕ) (tables : List BegunTable) (begun : AreBegun slots tables) (is : slot ≡ get_or slots id 0) where
   -- the part that a slot leads to is that of its number
   pub table-found : slot < length tables → ((d : BegunTable) → (get_or tables slot d).constraint ≡ id) → IsPlaceOfTable id tables slot
   table-found inside here =
@@ -102,9 +104,9 @@ module _ (count id slot : ℕ) (slots : List ℕ) (tables : List BegunTable) (be
 
 -- ---- one more part
 
-module _ (count id : ℕ) (slots slots' : List ℕ) (tables : List BegunTable) (begun : AreBegun count slots tables) (none : table_of id tables ≡ None) (others : (k : ℕ) → k ≢ id → get_or slots' k 0 ≡ get_or slots k 0) where
+module _ (id : ℕ) (slots slots' : List ℕ) (tables : List BegunTable) (begun : AreBegun slots tables) (none : table_of id tables ≡ None) (others : (k : ℕ) → k ≢ id → get_or slots' k 0 ≡ get_or slots k 0) where
   -- the slot of a number that has no part may lead anywhere
-  pub slot-free : AreBegun count slots' tables
+  pub slot-free : AreBegun slots' tables
   slot-free = record {
     parts = begun.parts;
     found = λ place b inside is.
@@ -112,9 +114,9 @@ module _ (count id : ℕ) (slots slots' : List ℕ) (tables : List BegunTable) (
         others b.constraint other ∙ begun.found place b inside is;
   }
 
-  pub begun-push : (part : TablePart) → IsTablePart count part → get_or slots' id 0 ≡ length tables → AreBegun count slots' (tables ++ record { constraint = id; part = part } ∷ [])
-  begun-push part formed here = record {
-    parts = All-push (λ (b : BegunTable). IsTablePart count b.part) tables new begun.parts formed;
+  pub begun-push : (part : TablePart) → IsTableKept part → get_or slots' id 0 ≡ length tables → AreBegun slots' (tables ++ record { constraint = id; part = part } ∷ [])
+  begun-push part kept here = record {
+    parts = All-push (λ (b : BegunTable). IsTableKept b.part) tables new begun.parts kept;
     found = λ place b inside is. elim (cases_eq place (length tables)) [
       | inl last ↦
           let at : new ≡ b = sym (ap (λ (n : ℕ). get_or (tables ++ new ∷ []) n b) last ∙ get_or_push tables new b (length tables) refl) ∙ is in
@@ -133,9 +135,9 @@ module _ (count id : ℕ) (slots slots' : List ℕ) (tables : List BegunTable) (
 
 -- ---- another part at a place
 
-pub begun-set : (count : ℕ) (slots : List ℕ) (tables : List BegunTable) (place : ℕ) (new : BegunTable) → place < length tables → new.constraint ≡ (get_or tables place new).constraint → IsTablePart count new.part → AreBegun count slots tables → AreBegun count slots (set tables place new)
-begun-set count slots tables place new inside same formed begun = record {
-  parts = All-set (λ (b : BegunTable). IsTablePart count b.part) tables place new formed begun.parts;
+pub begun-set : (slots : List ℕ) (tables : List BegunTable) (place : ℕ) (new : BegunTable) → place < length tables → new.constraint ≡ (get_or tables place new).constraint → IsTableKept new.part → AreBegun slots tables → AreBegun slots (set tables place new)
+begun-set slots tables place new inside same kept begun = record {
+  parts = All-set (λ (b : BegunTable). IsTableKept b.part) tables place new kept begun.parts;
   found = λ k b below is.
       let within : k < length tables = rw (← length-set tables place new) below in
       elim (cases_eq k place) [
@@ -146,6 +148,19 @@ begun-set count slots tables place new inside same formed begun = record {
         | inr other ↦ begun.found k b within (sym (get_or-set_other tables place k new b other) ∙ is)
       ];
 }
+
+-- a part that is kept at first, and with as many weights
+pub blank-kept : (declared : List IntSet) (places : List Term) (rows : List ℤ) → All IsInLimits rows → length rows ≤ longest → IsTableKept (blank_table declared places rows)
+blank-kept declared places rows numbers few = record {
+  numbers = numbers;
+  few = rw (length-blank declared places rows (row_count places rows)) (whole (length rows) (length places) few);
+}
+  where
+    whole : (n d : ℕ) → n ≤ longest → n / d * d ≤ longest
+    whole n d h = let e = div-add-mod' n d in omega arith
+
+pub kept-raised : (part : TablePart) (weights : List (Option ℤ)) → IsTableKept part → length weights ≡ length part.weights → IsTableKept (record part { weights = weights })
+kept-raised part weights kept many = record { numbers = kept.numbers; few = subst (λ (n : ℕ). n * length part.places ≤ longest) (sym many) kept.few }
 
 -- what is well formed of a table
 pub table-formed : (n : ℕ) (c : Constraint) (places : List Term) (rows : List ℤ) → c ≡ constraint.Table places rows → IsWellFormedConstraint n c → AreTerms n places × (0 < length places) × All IsInLimits rows × (length rows ≤ longest) × (length rows % length places ≡ 0)

@@ -14,6 +14,7 @@ use Rattle.fzn_values.specs.declared.term.Term.TheVariants.{Constant, Variable}
 use Rattle.fzn_values.specs.Term.{IsTerm, term_value, values_of}
 use Rattle.fzn_values.specs.Table.{row_at, IsTable}
 use Rattle.fzn_values.proofs.CallerLemmas.{length-values_of}
+use Rattle.fzn_meaning.proofs.TableWeightLemmas.{take-begins}
 use Rattle.fzn_meaning.specs.declared.row.TablePart.{TablePart}
 use Rattle.fzn_meaning.specs.declared.row.Part.TheVariants.{Table}
 use Rattle.fzn_meaning.specs.Separable.{begins_with, row_weight, weight_of, total_weight}
@@ -32,11 +33,6 @@ begins-at (x ∷ xs) [] k d is inside = absurd (cc)
 begins-at (x ∷ xs) (y ∷ rows) zero d is inside = (Decides-int_eq y x).0 (and_parts (int_eq y x) (begins_with xs rows) is).0
 begins-at (x ∷ xs) (y ∷ rows) (suc k) d is inside = begins-at xs rows k d (and_parts (int_eq y x) (begins_with xs rows) is).1 (omega arith)
 
-take-begins : (xs rows : List ℤ) → take (length xs) rows ≡ xs → begins_with xs rows ≡ true
-take-begins [] rows h = refl
-take-begins (x ∷ xs) [] h = absurd (cc)
-take-begins (x ∷ xs) (y ∷ rows) h = and_from (int_eq y x) (begins_with xs rows) ((Decides-int_eq y x).1 (cc)) (take-begins xs rows (cc))
-
 -- each row weighs so much more, and so does the one that equals the values
 pub raised-weight : (more : ℤ → Option ℤ) (column : ℕ) (xs rows : List ℤ) (weights : List (Option ℤ)) → column < length xs
     → row_weight xs rows (weights_raised more column (length xs) rows weights) ≡ both_weights (row_weight xs rows weights) (more (get_or xs column (pos 0)))
@@ -50,15 +46,7 @@ raised-weight more column xs rows (weight ∷ weights) inside = step (begins_wit
     step true is later = ap (λ (entry : ℤ). both_weights weight (more entry)) (begins-at xs rows column (pos 0) is inside)
     step false is later = later
 
-pub length-raised : (more : ℤ → Option ℤ) (column width : ℕ) (rows : List ℤ) (weights : List (Option ℤ)) → length (weights_raised more column width rows weights) ≡ length weights
-length-raised more column width rows [] = refl
-length-raised more column width rows (weight ∷ weights) = ap (λ (n : ℕ). suc n) (length-raised more column width (drop width rows) weights)
-
 -- ---- a row of zeros
-
-pub length-blank : (declared : List IntSet) (places : List Term) (rows : List ℤ) (count : ℕ) → length (blank_weights declared places rows count) ≡ count
-length-blank declared places rows zero = refl
-length-blank declared places rows (suc count) = ap (λ (n : ℕ). suc n) (length-blank declared places (drop (length places) rows) count)
 
 module _ (declared : List IntSet) (values : List ℤ) (within : IsWithin declared values) where
   value-may_be : (place : Term) (entry : ℤ) → IsTerm (length declared) place → int_eq entry (term_value values place) ≡ true → may_be declared place entry ≡ true

@@ -1,10 +1,9 @@
 -- Tables: values that meet the constraint and the row before meet the row after, and its parts are within the limits.
-use Rattle.std.proofs.Common.{◌≡◌, ℕ, zero, suc, ◌-◌, ◌*◌, ◌/◌, ◌%◌, ◌<◌, ◌≤◌, Bool, true, false, cond, ◌&&◌, nat_le, List, [], ◌∷◌, ◌++◌, length, drop, get_or, slice_index_or, refl, sym, ap, ◌∙◌, subst, arith, ℤ, pos, ◌+ℤ◌, ◌-ℤ◌, Option, Some, None, IsSome, IfSome, Result, Ok, Err, All}
+use Rattle.std.proofs.Common.{◌≡◌, ℕ, ◌-◌, ◌<◌, ◌≤◌, Bool, true, false, cond, ◌&&◌, nat_le, List, [], ◌∷◌, ◌++◌, length, get_or, slice_index_or, refl, sym, ap, ◌∙◌, subst, arith, ℤ, pos, ◌+ℤ◌, ◌-ℤ◌, Option, Some, None, IsSome, IfSome, Result, Ok, Err, All}
 use Rattle.std.specs.List.{list_all}
 use Rattle.std.specs.Option.{option_map_or}
 use Rattle.std.proofs.lemmas.Int.{ints}
-use Rattle.std.proofs.lemmas.Nat.{div-add-mod'}
-use Rattle.std.proofs.lemmas.List.Elements.{All-nil, All-cons, All-push}
+use Rattle.std.proofs.lemmas.List.Elements.{All-push}
 use Rattle.std.proofs.lemmas.Bool.{and_parts}
 use Rattle.fzn_domain.specs.declared.literal.VarId.{VarId}
 use Rattle.fzn_domain.specs.IntSet.{IntSet, least, greatest}
@@ -21,7 +20,7 @@ use Rattle.fzn_values.proofs.CallerLemmas.{length-values_of, get_or-values_of}
 use Rattle.fzn_meaning.specs.declared.row.TablePart.{TablePart}
 use Rattle.fzn_meaning.specs.declared.row.VariablePart.{VariablePart}
 use Rattle.fzn_meaning.specs.declared.row.Part.TheVariants as row_part
-use Rattle.fzn_meaning.specs.Separable.{row_weight, weight_of, weight_at, IsTablePart, IsWithinLimit, RowHolds}
+use Rattle.fzn_meaning.specs.Separable.{row_weight, weight_of, weight_at, RowHolds}
 use Rattle.fzn_cited.specs.declared.fault.DeriveFault.{DeriveFault}
 use Rattle.fzn_cited.specs.declared.fault.DeriveFault.TheVariants.{NoSuchConstraint, NotDerived}
 use Rattle.fzn_cited.specs.Cited.{constraint_at}
@@ -31,8 +30,8 @@ use Rattle.fzn_weights.specs.Limits.{is_entry_within}
 use Rattle.fzn_weights.specs.Weights.{both_weights}
 use Rattle.fzn_weights.specs.Moves.{moved_from, span, is_narrow}
 use Rattle.fzn_weights.specs.Inverses.{place_in}
-use Rattle.fzn_weights.specs.Tables.{is_declared_row, blank_weights, row_count, blank_table, weights_raised, part_raised}
-use Rattle.fzn_weights.proofs.ListLemmas.{entries-within}
+use Rattle.fzn_weights.specs.Tables.{row_count, blank_table, weights_raised, part_raised}
+use Rattle.fzn_weights.proofs.TableLemmas.{blank-formed, part-raised}
 use Rattle.fzn_weights.proofs.MoveLemmas.{length-moved}
 use Rattle.fzn_row.specs.declared.room.BegunTable.{BegunTable}
 use Rattle.fzn_row.specs.Draft.{Draft, row_of, part_for, and_then}
@@ -46,25 +45,12 @@ use Rattle.fzn_row.proofs.MovesSound.{IsPlaced, placed, moved-weight}
 use Rattle.fzn_row.proofs.WeightsSound.{taken-exceeds}
 use Rattle.fzn_row.proofs.InversesSound.{place-found, place-variable}
 use Rattle.fzn_row.proofs.FormedLemmas.{IsBegun, IsFormed, passed, few_of, narrow-limits, bound-formed, list-formed, blank-put-formed}
-use Rattle.fzn_row.proofs.TableRowLemmas.{raised-weight, length-raised, length-blank, blank-weight, of-table, of-with_table, table_of-push, put-table, total-push}
+use Rattle.fzn_row.proofs.TableRowLemmas.{raised-weight, blank-weight, of-table, of-with_table, table_of-push, put-table, total-push}
 
 ok_is : (a b : Draft) → ◌≡◌ {A = Result Draft DeriveFault} (Ok a) (Ok b) → a ≡ b
 ok_is a b e = cc
 
 -- ---- a table that is begun
-
-abbrev IsBlank : Option ℤ → Type 0
-IsBlank entry = IfSome entry IsWithinLimit
-
-blanks-within : (declared : List IntSet) (places : List Term) (rows : List ℤ) (count : ℕ) → All IsBlank (blank_weights declared places rows count)
-blanks-within declared places rows zero = All-nil IsBlank
-blanks-within declared places rows (suc count) =
-    All-cons IsBlank (cond (is_declared_row declared places rows) (Some (pos 0)) None) (blank_weights declared places (drop (length places) rows) count)
-    (blank (is_declared_row declared places rows)) (blanks-within declared places (drop (length places) rows) count)
-  where
-    blank : (test : Bool) → IsBlank (cond test (Some (pos 0)) None)
-    blank true = omega arith
-    blank false = tt
 
 module _ (declared : List IntSet) (id : ℕ) (places : List Term) (rows : List ℤ) (draft : Draft) where
   abbrev New : BegunTable
@@ -90,20 +76,7 @@ module _ (declared : List IntSet) (id : ℕ) (places : List Term) (rows : List �
   module _ (given : List Constraint) (count : ℕ) (well : IsWellFormedConstraint count (Table places rows)) (named : constraint_at given id ≡ Some (Table places rows)) where
     blank-begun : IsBegun given count id (blank_table declared places rows)
     unfolding IsWellFormedConstraint
-    blank-begun = record {
-      formed = record {
-        places = well.0.0;
-        some = well.1;
-        numbers = well.2;
-        few = well.3;
-        one_each = ap (λ (n : ℕ). n * length places) (length-blank declared places rows (row_count places rows)) ∙ whole (length rows) (length places) well.4;
-        weights = blanks-within declared places rows (row_count places rows);
-      };
-      named = named;
-    }
-      where
-        whole : (n w : ℕ) → n % w ≡ 0 → n / w * w ≡ n
-        whole n w h = let e = div-add-mod' n w in omega (arith, h, e)
+    blank-begun = record { formed = blank-formed declared places rows count well.0.0 well.1 well.2 well.3 well.4; named = named }
 
     begun-formed : IsFormed given count draft → IsFormed given count Begun
     begun-formed formed = begun-either (IsFormed given count) (λ table found. formed) (λ none. record {
@@ -144,23 +117,15 @@ module _ (id : ℕ) (more : ℤ → Option ℤ) (column : ℕ) (draft after : Dr
   raised-parts : table_raised id more column draft ≡ Ok after → after.parts ≡ draft.parts
   raised-parts is = ap (λ (d : Draft). d.parts) (sym (raised_how is).1)
 
-  raised-formed : (given : List Constraint) (count : ℕ) → IsFormed given count draft → table_raised id more column draft ≡ Ok after → IsFormed given count after
-  raised-formed given count formed is =
+  raised-formed : (given : List Constraint) (count : ℕ) → column < length table.places → IsFormed given count draft → table_raised id more column draft ≡ Ok after → IsFormed given count after
+  raised-formed given count inside formed is =
       let how = raised_how is in
       let had = of-table (IsBegun given count) id draft.tables table formed.tables found in
-      let has : IsTablePart count (part_raised more column table) = record {
-        places = had.formed.places;
-        some = had.formed.some;
-        numbers = had.formed.numbers;
-        few = had.formed.few;
-        one_each = ap (λ (n : ℕ). n * length table.places) (length-raised more column (length table.places) table.rows table.weights) ∙ had.formed.one_each;
-        weights = entries-within Raised how.0;
-      } in
       subst (IsFormed given count) how.1 (record {
         parts = formed.parts;
         once = formed.once;
         bound = formed.bound;
-        tables = of-with_table (IsBegun given count) (With table) draft.tables (record { formed = has; named = had.named }) formed.tables;
+        tables = of-with_table (IsBegun given count) (With table) draft.tables (record { formed = part-raised more column count table had.formed inside how.0; named = had.named }) formed.tables;
       })
 
   -- the table weighs so much more at its row
@@ -292,7 +257,7 @@ module _ (given : List Constraint) (declared : List IntSet) (id : ℕ) (places :
 
     module _ (more : ℤ → Option ℤ) (raised : Draft) (is : table_raised id more column begun ≡ Ok raised) where
       part-formed : IsFormed given (length declared) raised
-      part-formed = raised-formed id more column begun raised has.table has.found given (length declared) has.formed is
+      part-formed = raised-formed id more column begun raised has.table has.found given (length declared) column_inside has.formed is
 
       part-exceeds : (values : List ℤ) (excess m : ℤ) → more (term_value values (slice_index_or places column (Constant (pos 0)))) ≡ Some m → Exceeds values begun excess → Exceeds values raised (excess +ℤ m)
       part-exceeds values excess m weighs h = raised-exceeds id more column begun raised has.table has.found values excess m column_inside (ap more (entry-value values) ∙ weighs) h is

@@ -1,9 +1,12 @@
 -- The room in which a row is made.
-use Rattle.std.specs.Prelude.{◌≡◌, ◌≢◌, ℕ, ◌-◌, ◌<◌, List, length, slice_index_or, slice_set, Some}
+use Rattle.std.specs.Prelude.{◌≡◌, ◌≢◌, ℕ, ◌-◌, ◌*◌, ◌<◌, ◌≤◌, List, length, slice_index_or, slice_set, Some}
 use Rattle.std.specs.List.{All}
 use Rattle.fzn_domain.specs.declared.literal.VarId.{VarId}
+use Rattle.fzn_list.specs.Limits.{longest}
+use Rattle.fzn_domain.specs.Limits.{IsInLimits}
 use Rattle.fzn_meaning.specs.declared.row.VariablePart.{VariablePart}
-use Rattle.fzn_meaning.specs.Separable.{IsVariablePart, IsTablePart, IsWithinLimit}
+use Rattle.fzn_meaning.specs.declared.row.TablePart.{TablePart}
+use Rattle.fzn_meaning.specs.Separable.{IsVariablePart, IsWithinLimit}
 use Rattle.fzn_row.specs.declared.room.BegunTable.{BegunTable}
 use Rattle.fzn_row.specs.declared.room.RowDeriver.{RowDeriver}
 use Rattle.fzn_row.specs.Draft.{Draft, part_for, with_part}
@@ -24,15 +27,20 @@ AreFound slots parts = (place : ℕ) (part : VariablePart) → place < length pa
 abbrev pub IsAbsent : VarId → List VariablePart → Type 0
 IsAbsent var parts = All (λ part. part.var.0 ≢ var.0) parts
 
--- each part of a table is within the limits, and found by the slot of its constraint's number
-pub record AreBegun (count : ℕ) (slots : List ℕ) (tables : List BegunTable) : Type 0 where
-  pub parts : All (λ begun. IsTablePart count begun.part) tables
+-- the numbers of its rows are within the limits, and no more of them weigh than a list may have
+pub record IsTableKept (part : TablePart) : Type 0 where
+  pub numbers : All IsInLimits part.rows
+  pub few : length part.weights * length part.places ≤ longest
+
+-- so of each part of a table, which is found by the slot of its constraint's number
+pub record AreBegun (slots : List ℕ) (tables : List BegunTable) : Type 0 where
+  pub parts : All (λ begun. IsTableKept begun.part) tables
   pub found : (place : ℕ) (begun : BegunTable) → place < length tables → slice_index_or tables place begun ≡ begun → slice_index_or slots begun.constraint 0 ≡ place
 
 pub record IsRoom (room : RowDeriver) : Type 0 where
   pub parts : All (IsVariablePart (room_size room)) room.parts.items
   pub found : AreFound room.slots.items room.parts.items
-  pub tables : AreBegun (room_size room) room.table_slots.items room.tables.items
+  pub tables : AreBegun room.table_slots.items room.tables.items
   pub bound : IsWithinLimit room.bound
 
 -- at this place stands the part that the variable had, or a blank one where it had none; whatever replaces it replaces the variable's

@@ -7,7 +7,6 @@ ghost use Rattle.fzn_domain.specs.Limits.{IsInLimits};
 ghost use Rattle.fzn_domain.specs.Narrow.{IsVariable};
 ghost use Rattle.fzn_values.specs.Term.{IsTerm};
 ghost use Rattle.fzn_meaning.specs.Meaning.{IsWellFormedConstraint, AreTerms};
-ghost use Rattle.fzn_meaning.specs.Separable.{IsTablePart};
 ghost use Rattle.fzn_meaning.specs.Solutions.{declared_sets};
 ghost use Rattle.fzn_cited.specs.declared.fault.DeriveFault.TheVariants.{Memory};
 ghost use Rattle.fzn_weights.specs.Prices.{price_at, are_prices};
@@ -16,7 +15,7 @@ ghost use Rattle.fzn_weights.specs.Amount.{amount_at, IsLimitedAmount};
 ghost use Rattle.fzn_row.specs.Draft.{part_for};
 ghost use Rattle.fzn_row.specs.Prices.{with_list};
 ghost use Rattle.fzn_row.specs.Tables.{table_of, table_begun, weights_spent, table_raised, term_lowered, column_priced, columns_priced, columns_added, part_to_rows, moved_to_rows, rows_added};
-ghost use Rattle.fzn_row.specs.Room.{draft_of, room_size, IsRoom, IsPlaceOfTable};
+ghost use Rattle.fzn_row.specs.Room.{draft_of, room_size, IsTableKept, IsRoom, IsPlaceOfTable};
 
 use crate::room::{BegunTable, RowDeriver};
 use fzn_cited::{DeriveFault, constraint_at};
@@ -257,7 +256,7 @@ impl RowDeriver {
     fn put_table(&mut self, id: u64, part: TablePart) -> Result<(), AllocError>
         requires room { IsRoom self.old }
         requires none { table_of id self.old.tables.items ≡ None }
-        requires part { IsTablePart (room_size self.old) part }
+        requires part { IsTableKept part }
         ensures variables { room_size self.new ≡ room_size self.old }
         ensures room { IsRoom self.new }
         ensures tables { OnOk result (self.new.tables.items ≡ self.old.tables.items ++ record { constraint = id; part = part } ∷ []) }

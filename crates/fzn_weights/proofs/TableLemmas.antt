@@ -3,7 +3,7 @@ use Rattle.std.proofs.Common.{◌≡◌, ℕ, zero, suc, ◌+◌, ◌*◌, ◌/�
 use Rattle.std.specs.List.{list_all}
 use Rattle.std.proofs.Math.Numerals.{add-one}
 use Rattle.std.proofs.lemmas.Nat.{div-add-mod'}
-use Rattle.std.proofs.lemmas.List.{get_or-drop, drop-drop, drop_more, take_more, length-take}
+use Rattle.std.proofs.lemmas.List.{get_or-drop, get_or-take, drop-drop, drop_more, take_more, length-take}
 use Rattle.std.proofs.lemmas.List.Elements.{All-nil, All-cons}
 use Rattle.fzn_domain.specs.IntSet.{IntSet}
 use Rattle.fzn_list.specs.Limits.{longest}
@@ -12,11 +12,12 @@ use Rattle.fzn_values.specs.declared.term.Term.{Term}
 use Rattle.fzn_meaning.specs.declared.row.Listed.{Listed}
 use Rattle.fzn_meaning.specs.declared.row.TablePart.{TablePart}
 use Rattle.fzn_values.specs.Term.{IsTerm}
-use Rattle.fzn_meaning.specs.Separable.{IsWithinLimit, IsTablePart}
+use Rattle.fzn_values.specs.Table.{row_at}
+use Rattle.fzn_meaning.specs.Separable.{IsWithinLimit, WeighAlike, IsTablePart}
 use Rattle.fzn_weights.specs.Limits.{is_entry_within}
 use Rattle.fzn_weights.specs.Weights.{both_weights}
 use Rattle.fzn_weights.specs.Moves.{moved_from}
-use Rattle.fzn_weights.specs.Tables.{may_be, is_declared_row, blank_weights, blank_table, row_count, weights_raised}
+use Rattle.fzn_weights.specs.Tables.{may_be, is_declared_row, blank_weights, blank_table, row_count, weights_raised, part_raised}
 use Rattle.fzn_weights.proofs.ListLemmas.{entries-within}
 
 -- ---- blank parts
@@ -30,6 +31,12 @@ drop-none (row ∷ rows) = refl
 
 start_of : (k n : ℕ) → n + k * n ≡ suc k * n
 start_of k n = omega arith
+
+-- of a row only its own entries count
+declared-front : (declared : List IntSet) (places : List Term) (row : List ℤ) → is_declared_row declared places (take (length places) row) ≡ is_declared_row declared places row
+declared-front declared [] row = refl
+declared-front declared (place ∷ places) [] = refl
+declared-front declared (place ∷ places) (entry ∷ row) = ap (λ (b : Bool). may_be declared place entry && b) (declared-front declared places row)
 
 module _ (declared : List IntSet) (places : List Term) where
   abbrev pub Blank : List ℤ → Option ℤ
@@ -46,6 +53,24 @@ module _ (declared : List IntSet) (places : List Term) where
       one : (test : Bool) → IfSome (cond test (Some (pos 0)) None) IsWithinLimit
       one true = omega arith
       one false = tt
+
+  blank-at : (rows : List ℤ) (count r : ℕ) → r < count → get_or (blank_weights declared places rows count) r None ≡ Blank (row_at (length places) rows r)
+  blank-at rows zero r inside = absurd (omega arith)
+  blank-at rows (suc count) zero inside =
+      ap (λ (b : Bool). cond b (Some (pos 0)) None) (sym (declared-front declared places rows))
+      ∙ ap (λ (row : List ℤ). Blank (take (length places) row)) (sym (drop-none rows)) ∙ ap (λ (n : ℕ). Blank (row_from n)) (none_of (length places))
+    where
+      row_from : ℕ → List ℤ
+      row_from n = take (length places) (drop n rows)
+  blank-at rows (suc count) (suc r) inside =
+      blank-at (drop (length places) rows) count r (omega arith)
+      ∙ ap (λ (row : List ℤ). Blank (take (length places) row)) (drop-drop (r * length places) (length places) rows ∙ ap (λ (n : ℕ). drop n rows) (start_of r (length places)))
+
+  -- rows that are equal are both declared, or neither
+  blank-alike : (rows : List ℤ) (count : ℕ) → WeighAlike (length places) rows (blank_weights declared places rows count)
+  blank-alike rows count r s below_r below_s same =
+      let many = length-blank rows count in
+      blank-at rows count r (omega (arith, many, below_r)) ∙ ap Blank same ∙ sym (blank-at rows count s (omega (arith, many, below_s)))
 
   blank-push : (rows : List ℤ) (count : ℕ) → blank_weights declared places rows (suc count) ≡ blank_weights declared places rows count ++ Blank (drop (count * length places) rows) ∷ []
   blank-push rows zero = ap (λ (ys : List ℤ). Blank ys ∷ []) (sym (drop-none rows)) ∙ ap (λ (n : ℕ). Blank (drop n rows) ∷ []) (none_of (length places))
@@ -91,6 +116,7 @@ blank-formed declared places rows n terms some numbers few whole = record {
   few = few;
   one_each = ap (λ (m : ℕ). m * length places) (length-blank declared places rows (row_count places rows)) ∙ whole_rows (length rows) (length places) whole;
   weights = blank-within declared places rows (row_count places rows);
+  alike = blank-alike declared places rows (row_count places rows);
 }
 
 -- ---- weights that are raised
@@ -116,6 +142,22 @@ module _ (more : ℤ → Option ℤ) (column width : ℕ) where
       next : (k w c : ℕ) → w + (k * w + c) ≡ suc k * w + c
       next k w c = omega arith
 
+  entry-in : column < width → (rows : List ℤ) (r : ℕ) → get_or rows (r * width + column) (pos 0) ≡ get_or (row_at width rows r) column (pos 0)
+  entry-in inside rows r = sym (get_or-take width (drop (r * width) rows) column (pos 0) inside ∙ get_or-drop (r * width) rows column (pos 0))
+
+  -- rows that are equal have the same entry at the column
+  pub weights-alike : (rows : List ℤ) (weights : List (Option ℤ)) → column < width → WeighAlike width rows weights → WeighAlike width rows (weights_raised more column width rows weights)
+  weights-alike rows weights inside alike r s below_r below_s same =
+      let many = length-weights rows weights in
+      let in_r : r < length weights = omega (arith, many, below_r) in
+      let in_s : s < length weights = omega (arith, many, below_s) in
+      let entry : get_or rows (r * width + column) (pos 0) ≡ get_or rows (s * width + column) (pos 0) =
+      entry-in inside rows r ∙ ap (λ (row : List ℤ). get_or row column (pos 0)) same ∙ sym (entry-in inside rows s) in
+      weights-at rows weights r in_r
+      ∙ ap (λ (weight : Option ℤ). RaisedBy weight rows (r * width + column)) (alike r s in_r in_s same)
+      ∙ ap (λ (number : ℤ). both_weights (get_or weights s None) (more number)) entry
+      ∙ sym (weights-at rows weights s in_s)
+
   weights-push : (rows : List ℤ) (weights : List (Option ℤ)) (weight : Option ℤ) → weights_raised more column width rows (weights ++ weight ∷ []) ≡ weights_raised more column width rows weights ++ RaisedBy weight rows (length weights * width + column) ∷ []
   weights-push rows [] weight = ap (λ (n : ℕ). RaisedBy weight rows n ∷ []) (first column width)
     where
@@ -136,15 +178,16 @@ module _ (more : ℤ → Option ℤ) (column width : ℕ) where
       ∙ ap (λ (n : ℕ). weights_raised more column width rows (take k weights) ++ RaisedBy (get_or weights k None) rows (n * width + column) ∷ []) count
       ∙ ap (λ (e : Option ℤ). weights_raised more column width rows (take k weights) ++ e ∷ []) (sym is)
 
--- the part with other weights
-pub part-raised : (n : ℕ) (part : TablePart) (weights : List (Option ℤ)) → IsTablePart n part → length weights ≡ length part.weights → list_all is_entry_within weights ≡ true → IsTablePart n (record part { weights = weights })
-part-raised n part weights formed same within = record {
+-- the part whose rows weigh more
+pub part-raised : (more : ℤ → Option ℤ) (column n : ℕ) (part : TablePart) → IsTablePart n part → column < length part.places → list_all is_entry_within (part_raised more column part).weights ≡ true → IsTablePart n (part_raised more column part)
+part-raised more column n part formed inside within = record {
   places = formed.places;
   some = formed.some;
   numbers = formed.numbers;
   few = formed.few;
-  one_each = ap (λ (m : ℕ). m * length part.places) same ∙ formed.one_each;
-  weights = entries-within weights within;
+  one_each = ap (λ (m : ℕ). m * length part.places) (length-weights more column (length part.places) part.rows part.weights) ∙ formed.one_each;
+  weights = entries-within (part_raised more column part).weights within;
+  alike = weights-alike more column (length part.places) part.rows part.weights inside formed.alike;
 }
 
 -- ---- weights that are moved

@@ -1,5 +1,4 @@
 use Rattle.std.proofs.Common.{arith, ◌≡◌, length, ◌∙◌}
-use Rattle.fzn_row.specs.Room.{room_size}
 use Rattle.fzn_row.proofs.TableLemmas.{slot-free, begun-push}
 use Rattle.fzn_row.proofs.room.RowDeriver.put_table.Goals as goal
 
@@ -9,7 +8,7 @@ returns-in_err-put_slot-clause-room c =
     record {
       parts = c.requires.room.parts;
       found = c.requires.room.found;
-      tables = slot-free (room_size room) c.args.id room.table_slots.items _ room.tables.items c.requires.room.tables c.requires.none c.put_slot.ensures.others;
+      tables = slot-free c.args.id room.table_slots.items _ room.tables.items c.requires.room.tables c.requires.none c.put_slot.ensures.others;
       bound = c.requires.room.bound;
     }
 
@@ -19,7 +18,7 @@ returns-in_err-push-clause-room c =
     record {
       parts = c.requires.room.parts;
       found = c.requires.room.found;
-      tables = rw c.in_err-push.ensures.items (slot-free (room_size room) c.args.id room.table_slots.items _ room.tables.items c.requires.room.tables c.requires.none c.put_slot.ensures.others);
+      tables = rw c.in_err-push.ensures.items (slot-free c.args.id room.table_slots.items _ room.tables.items c.requires.room.tables c.requires.none c.put_slot.ensures.others);
       bound = c.requires.room.bound;
     }
 
@@ -30,6 +29,6 @@ returns-clause-room c =
     record {
       parts = c.requires.room.parts;
       found = c.requires.room.found;
-      tables = rw c.in_ok-push.ensures.items (begun-push (room_size room) c.args.id room.table_slots.items _ room.tables.items c.requires.room.tables c.requires.none c.put_slot.ensures.others c.args.part c.requires.part (c.in_ok-put_slot.ensures.here ∙ at));
+      tables = rw c.in_ok-push.ensures.items (begun-push c.args.id room.table_slots.items _ room.tables.items c.requires.room.tables c.requires.none c.put_slot.ensures.others c.args.part c.requires.part (c.in_ok-put_slot.ensures.here ∙ at));
       bound = c.requires.room.bound;
     }
