@@ -1,9 +1,9 @@
 -- The value of a variable at each value of the one that decides it.
-use Rattle.std.specs.Prelude.{ℤ, pos, ◌+ℤ◌, ◌-ℤ◌, ◌*ℤ◌, Option, None, Some}
+use Rattle.std.specs.Prelude.{ℤ, pos, ◌+ℤ◌, ◌-ℤ◌, ◌*ℤ◌, Option, Some}
 use Rattle.fzn_values.specs.Term.{numbers_in}
 use Rattle.fzn_dependence.specs.declared.dependence.Affine.{Affine}
 use Rattle.fzn_dependence.specs.declared.dependence.Dependence.{Dependence}
-use Rattle.fzn_dependence.specs.declared.dependence.Dependence.TheVariants.{Nothing, Entry, Switch, Equation}
+use Rattle.fzn_dependence.specs.declared.dependence.Dependence.TheVariants.{Entry, Switch, Equation}
 use Rattle.fzn_dependence.specs.Decided.{sum_compares, bit, quotient, entry_number}
 
 -- the sum where its variable has this value, and all others are 0
@@ -12,13 +12,6 @@ affine_at sum value = sum.rest +ℤ sum.coefficient *ℤ value
 
 -- what the variable is where the one that decides it has this value
 abbrev pub dependent_at : Dependence → ℤ → Option ℤ
-dependent_at Nothing value = None
 dependent_at (Entry entries) value = entry_number (numbers_in entries.now) (value -ℤ pos 1)
 dependent_at (Switch sum comparison bound) value = Some (bit (sum_compares comparison (affine_at sum value) bound))
 dependent_at (Equation sum bound) value = quotient (bound -ℤ affine_at sum value) sum.besides
-
--- what all other variables of the sum together are multiplied with
-abbrev pub besides_in : Dependence → ℤ
-besides_in (Switch sum comparison bound) = sum.besides
-besides_in (Equation sum bound) = sum.besides
-besides_in _ = pos 0

@@ -5,10 +5,10 @@ ghost use Rattle.std.specs.Option.{option_map};
 ghost use Rattle.fzn_list.specs.Limits.{longest};
 ghost use Rattle.fzn_builtin_rules.specs.Borrowed.{places_in, form_in};
 ghost use Rattle.fzn_builtin_rules.specs.Form.{form_of};
-ghost use Rattle.fzn_dependence.specs.Decided.{another_in, another_of, coefficient_besides, is_decided, form_decider, form_value, is_constant, decider_in, decided_in, AreBounded, is_place_of};
+ghost use Rattle.fzn_dependence.specs.Decided.{another_in, another_of, form_decider, form_value, is_constant, decider_in, decided_in, AreBounded, is_place_of};
 ghost use Rattle.fzn_dependence.specs.Dependence.{dependent_at};
 
-use crate::dependence::Dependence;
+use crate::dependence::{Affine, Dependence};
 use fzn_builtin_rules::{Form, Places, form_of};
 use fzn_domain::VarId;
 use fzn_meaning::{Comparison, Constraint};
@@ -61,27 +61,26 @@ fn form_decider<'a>(var: VarId, form: &Form<'_>) -> Option<Decider<'a>>
     ensures value { IfSome result (λ found. (value : ℤ) → dependent_at found.dependence value ≡ form_value found.by value (form_in form.now)) }
 {
     let by = another_of(var, var, &form.places)?;
-    let dependence = Dependence::of_form(by, form);
-    if is_decided(var, by, form, dependence.besides()) {
-        Some(Decider { by, dependence })
-    } else {
-        None
-    }
-}
-
-/// Whether the first variable has one value for each of the second, which is the only other one; all but the second are multiplied with
-/// this number together.
-fn is_decided(var: VarId, by: VarId, form: &Form<'_>, besides: i128) -> bool
-    requires form { AreBounded (form_in form.now) }
-    requires besides { besides ≡ coefficient_besides by (places_in form.now.places) }
-    ensures { result ≡ is_decided var by (form_in form.now) }
-{
+    let sum = Affine::of(by, &form.places);
     match form.switch {
-        Some(switch) => is_place_of(switch, var) && another_of(by, by, &form.places).is_none(),
+        Some(switch) => {
+            if is_place_of(switch, var) && another_of(by, by, &form.places).is_none() {
+                let dependence = Dependence::Switch(sum, form.comparison, form.bound);
+                Some(Decider { by, dependence })
+            } else {
+                None
+            }
+        }
         None => {
-            matches!(form.comparison, Comparison::Equal)
+            if matches!(form.comparison, Comparison::Equal)
                 && another_of(by, var, &form.places).is_none()
-                && besides != 0
+                && sum.besides != 0
+            {
+                let dependence = Dependence::Equation(sum, form.bound);
+                Some(Decider { by, dependence })
+            } else {
+                None
+            }
         }
     }
 }

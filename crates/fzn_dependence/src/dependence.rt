@@ -3,10 +3,10 @@ ghost use Rattle.std.specs.Prelude.{◌≡◌, ◌*◌, ◌≤◌, ℤ, pos, ◌
 ghost use Rattle.std.specs.List.{All};
 ghost use Rattle.fzn_list.specs.Limits.{longest};
 ghost use Rattle.fzn_values.specs.Term.{numbers_in};
-ghost use Rattle.fzn_builtin_rules.specs.Borrowed.{places_in, form_in};
-ghost use Rattle.fzn_dependence.specs.Decided.{sum_where, coefficient_besides, sum_compares, quotient, form_value, entry_number, HasSmallNumbers, AreBounded};
+ghost use Rattle.fzn_builtin_rules.specs.Borrowed.{places_in};
+ghost use Rattle.fzn_dependence.specs.Decided.{sum_where, coefficient_besides, sum_compares, quotient, entry_number, HasSmallNumbers};
 
-use fzn_builtin_rules::{Form, Places};
+use fzn_builtin_rules::Places;
 use fzn_domain::VarId;
 use fzn_meaning::{Comparison, plus_product};
 use fzn_values::Term;
@@ -65,8 +65,6 @@ impl Affine {
 /// What a variable is at each value of another one.
 #[derive(Clone, Copy)]
 pub enum Dependence<'a> {
-    /// Nothing.
-    Nothing,
     /// The entry whose place, counted from 1, is the value.
     Entry(&'a [Term]),
     /// 1 where the sum compares so with the bound, and else 0.
@@ -76,31 +74,7 @@ pub enum Dependence<'a> {
 }
 
 impl<'a> Dependence<'a> {
-    ghost use Rattle.fzn_dependence.specs.Dependence.{dependent_at, besides_in};
-
-    /// What the form makes of each value of this variable.
-    pub(crate) fn of_form(by: VarId, form: &Form<'_>) -> Dependence<'a>
-        requires form { AreBounded (form_in form.now) }
-        ensures value { (value : ℤ) → dependent_at result value ≡ form_value by value (form_in form.now) }
-        ensures besides { besides_in result ≡ coefficient_besides by (places_in form.now.places) }
-    {
-        let sum = Affine::of(by, &form.places);
-        match form.switch {
-            Some(_) => Dependence::Switch(sum, form.comparison, form.bound),
-            None => Dependence::Equation(sum, form.bound),
-        }
-    }
-
-    /// What all other variables of the sum together are multiplied with.
-    pub(crate) fn besides(&self) -> i128
-        ensures { result ≡ besides_in self.now }
-    {
-        match self {
-            Dependence::Switch(sum, _, _) => sum.besides,
-            Dependence::Equation(sum, _) => sum.besides,
-            _ => 0,
-        }
-    }
+    ghost use Rattle.fzn_dependence.specs.Dependence.{dependent_at};
 
     /// What the variable is where the other one has this value, from -10^10 to 10^10; `None` where that decides no number.
     pub fn at(&self, value: &i64) -> Option<i128>
@@ -108,7 +82,6 @@ impl<'a> Dependence<'a> {
         ensures { result ≡ dependent_at self.now value.now }
     {
         match self {
-            Dependence::Nothing => None,
             Dependence::Entry(entries) => entry_number(entries, value),
             Dependence::Switch(sum, comparison, bound) => {
                 Some(sum_compares(*comparison, &sum.at(value), bound) as i128)

@@ -20,11 +20,11 @@ use Rattle.fzn_values.specs.Term.{IsTerm, IsPlace}
 use Rattle.fzn_meaning.specs.Meaning.{IsWellFormedConstraint, AreTerms}
 use Rattle.fzn_meaning.specs.declared.row.VariablePart.{VariablePart}
 use Rattle.fzn_meaning.specs.declared.row.Part.TheVariants as row_part
-use Rattle.fzn_dependence.specs.Decided.{decider_in}
+use Rattle.fzn_dependence.specs.Decided.{decider_in, decided_in}
 use Rattle.fzn_dependence.proofs.DecidedSound.{decided-variables}
 use Rattle.fzn_weights.specs.Multiples.{is_usable}
 use Rattle.fzn_weights.specs.Prices.{entries_from, price_at, most_cost, priced_places, has_each_price, is_price, are_prices}
-use Rattle.fzn_weights.specs.Moves.{decided_weight, moved_from, span, is_narrow}
+use Rattle.fzn_weights.specs.Moves.{weight_where, moved_from, span, is_narrow}
 use Rattle.fzn_weights.specs.Inverses.{raised_from, place_in}
 use Rattle.fzn_weights.proofs.PriceLemmas.{length-entries}
 use Rattle.fzn_weights.proofs.MoveLemmas.{length-moved}
@@ -44,7 +44,7 @@ use Rattle.fzn_row.specs.Draft.{Draft, empty, row_of, row_stated, part_for, with
 use Rattle.fzn_row.specs.Multiples.{term_added, place_added, form_added, multiple_added}
 use Rattle.fzn_row.specs.Prices.{price_added}
 use Rattle.fzn_row.specs.Weights.{without_part}
-use Rattle.fzn_row.specs.Moves.{part_moved, decided_moved, part_moved_by}
+use Rattle.fzn_row.specs.Moves.{part_moved_so, decided_moved, part_moved_by}
 use Rattle.fzn_row.specs.Inverses.{place_raised, places_raised, moved_back, inverse_moved}
 use Rattle.fzn_row.specs.Derived.{item_added, drafted, IsDerivedRow}
 use Rattle.fzn_row.proofs.InversesSound.{place-variable}
@@ -127,16 +127,16 @@ ok_is : (a b : Draft) → ◌≡◌ {A = Result Draft DeriveFault} (Ok a) (Ok b)
 ok_is a b e = cc
 
 module _ (given : List Constraint) (count : ℕ) where
-  narrow-formed : (declared : List IntSet) (c : Constraint) (source by : VarId) (draft after : Draft) (test : Bool) → is_narrow (set_of declared by) ≡ test → IsVariable count source → IsVariable count by → IsFormed given count draft
-      → cond test (part_moved declared c source by draft) (Err NotDerived) ≡ Ok after → IsFormed given count after
-  narrow-formed declared c source by draft after true test source_fits by_fits formed is =
+  narrow-formed : (declared : List IntSet) (decided : ℤ → Option ℤ) (source by : VarId) (draft after : Draft) (test : Bool) → is_narrow (set_of declared by) ≡ test → IsVariable count source → IsVariable count by → IsFormed given count draft
+      → cond test (part_moved_so declared decided source by draft) (Err NotDerived) ≡ Ok after → IsFormed given count after
+  narrow-formed declared decided source by draft after true test source_fits by_fits formed is =
       let set = set_of declared by in
       let limits = narrow-limits set test in
-      let more = decided_weight (set_of declared source) (part_for source draft.parts) by c in
+      let more = weight_where (set_of declared source) (part_for source draft.parts) decided in
       let old = (part_for by (without_part source draft).parts).listed in
       let few : length (moved_from more (least set) (span set) old) ≤ 65536 = rw (length-moved more old (least set) (span set)) limits.1 in
       list-formed given count (without_part source draft) after (blank-put-formed given count draft draft formed source source_fits) by (least set) (moved_from more (least set) (span set) old) by_fits limits.0 few is
-  narrow-formed declared c source by draft after false test source_fits by_fits formed is = absurd (no_error NotDerived after is)
+  narrow-formed declared decided source by draft after false test source_fits by_fits formed is = absurd (no_error NotDerived after is)
 
   raised-formed : (length_of : ℕ) (value : ℤ) (more : Option ℤ) (place : Term) (draft after : Draft) → length_of ≤ 65536 → IsTerm count place → IsFormed given count draft → place_raised length_of value more draft place ≡ Ok after → IsFormed given count after
   raised-formed length_of value more (Constant k) draft after few fits formed is = constant (int_eq k value) more is
@@ -176,11 +176,11 @@ module _ (given : List Constraint) (count : ℕ) where
   decided-formed : (declared : List IntSet) (source : VarId) (c : Constraint) (draft after : Draft) → IsWellFormedConstraint count c → IsFormed given count draft → decided_moved declared source draft c ≡ Ok after → IsFormed given count after
   decided-formed declared source c draft after well formed is = found (decider_in source c) refl is
     where
-      found : (o : Option VarId) → decider_in source c ≡ o → option_map_or (λ by. cond (is_narrow (set_of declared by)) (part_moved declared c source by draft) (Err NotDerived)) o (Err NotDerived) ≡ Ok after → IsFormed given count after
+      found : (o : Option VarId) → decider_in source c ≡ o → option_map_or (λ by. cond (is_narrow (set_of declared by)) (part_moved_so declared (λ (value : ℤ). decided_in by value c) source by draft) (Err NotDerived)) o (Err NotDerived) ≡ Ok after → IsFormed given count after
       found None decider made = absurd (no_error NotDerived after made)
       found (Some by) decider made =
           let fit = decided-variables count source by c well decider in
-          narrow-formed declared c source by draft after (is_narrow (set_of declared by)) refl fit.1 fit.0 formed made
+          narrow-formed declared (λ (value : ℤ). decided_in by value c) source by draft after (is_narrow (set_of declared by)) refl fit.1 fit.0 formed made
 
   moved_by-formed : (declared : List IntSet) (var : VarId) (c : Constraint) (draft after : Draft) → IsWellFormedConstraint count c → IsFormed given count draft → part_moved_by declared var draft c ≡ Ok after → IsFormed given count after
   unfolding IsWellFormedConstraint

@@ -18,11 +18,11 @@ use Rattle.fzn_meaning.specs.Separable.{entry_in, listed_at, weighed, weight_at,
 use Rattle.fzn_dependence.specs.Decided.{decider_in, decided_in}
 use Rattle.fzn_dependence.proofs.DecidedSound.{decided-value, decided-variables}
 use Rattle.fzn_weights.specs.Weights.{both_weights}
-use Rattle.fzn_weights.specs.Moves.{weight_within, decided_weight, moved_from, span, is_narrow}
+use Rattle.fzn_weights.specs.Moves.{weight_within, weight_where, moved_from, span, is_narrow}
 use Rattle.fzn_weights.proofs.MoveLemmas.{moved-at}
 use Rattle.fzn_row.specs.Draft.{Draft, row_of, part_for}
 use Rattle.fzn_row.specs.Weights.{without_part}
-use Rattle.fzn_row.specs.Moves.{part_moved, decided_moved, part_moved_by, move_added}
+use Rattle.fzn_row.specs.Moves.{part_moved_so, decided_moved, part_moved_by, move_added}
 use Rattle.fzn_row.proofs.PartLemmas.{var-part_for}
 use Rattle.fzn_row.proofs.DraftSound.{Exceeds, exceeds-same, exceeds-holds, holds-exceeds, no_error}
 use Rattle.fzn_row.proofs.PricesSound.{dearer, list-exceeds, member}
@@ -56,22 +56,22 @@ moved-weight more low count old v w m has weighs moves =
 
 module _ (declared : List IntSet) (values : List ℤ) (within : IsWithin declared values) where
   -- the part weighs what it did at its variable's value
-  weighs-there : (source by : VarId) (part : VariablePart) (c : Constraint) → IsVariable (length declared) source → decided_in by (value_of values by) c ≡ Some (value_of values source)
-      → decided_weight (set_of declared source) part by c (value_of values by) ≡ weight_at part (value_of values source)
-  weighs-there source by part c variable decided =
-      ap (option_and_then (weight_within (set_of declared source) part)) decided ∙ ap (λ (b : Bool). cond b (weight_at part (value_of values source)) None) (member declared values within source variable)
+  weighs-there : (source : VarId) (part : VariablePart) (decided : ℤ → Option ℤ) (v : ℤ) → IsVariable (length declared) source → decided v ≡ Some (value_of values source)
+      → weight_where (set_of declared source) part decided v ≡ weight_at part (value_of values source)
+  weighs-there source part decided v variable is =
+      ap (option_and_then (weight_within (set_of declared source) part)) is ∙ ap (λ (b : Bool). cond b (weight_at part (value_of values source)) None) (member declared values within source variable)
 
-  part-exceeds : (source by : VarId) (c : Constraint) (draft after : Draft) (excess : ℤ) → IsVariable (length declared) source → IsVariable (length declared) by → decided_in by (value_of values by) c ≡ Some (value_of values source)
-      → Exceeds values draft excess → part_moved declared c source by draft ≡ Ok after → Exceeds values after excess
-  part-exceeds source by c draft after excess source_fits by_fits decided h is =
+  part-exceeds : (source by : VarId) (decided : ℤ → Option ℤ) (draft after : Draft) (excess : ℤ) → IsVariable (length declared) source → IsVariable (length declared) by → decided (value_of values by) ≡ Some (value_of values source)
+      → Exceeds values draft excess → part_moved_so declared decided source by draft ≡ Ok after → Exceeds values after excess
+  part-exceeds source by decided draft after excess source_fits by_fits decides h is =
       let part = part_for source draft.parts in
-      let more = decided_weight (set_of declared source) part by c in
+      let more = weight_where (set_of declared source) part decided in
       let low = least (set_of declared by) in
       let count = span (set_of declared by) in
       let here = member declared values within by by_fits in
       let there = placed low (greatest (set_of declared by)) (value_of values by) (least_le (set_of declared by) (value_of values by) here) (le_greatest (set_of declared by) (value_of values by) here) in
       let taken = taken-exceeds values source draft excess h in
-      let moves : more (value_of values by) ≡ Some taken.0 = weighs-there source by part c source_fits decided ∙ taken.1 in
+      let moves : more (value_of values by) ≡ Some taken.0 = weighs-there source part decided (value_of values by) source_fits decides ∙ taken.1 in
       let old = part_for by (without_part source draft).parts in
       let of = var-part_for by (without_part source draft).parts in
       let there_too : IsPlaced low count (value_of values old.var) = subst (λ (x : VarId). IsPlaced low count (value_of values x)) (sym of) there in
@@ -79,22 +79,22 @@ module _ (declared : List IntSet) (values : List ℤ) (within : IsWithin declare
       let last = list-exceeds values low by (moved_from more low count old.listed) taken.0 (without_part source draft) after (excess -ℤ taken.0) taken.2 (λ w weighs. moved-weight more low count old (value_of values old.var) w taken.0 there_too weighs moves_too) is in
       exceeds-same values after _ _ (whole excess taken.0) last
 
-  narrow-sound : (source by : VarId) (c : Constraint) (draft after : Draft) (test : Bool) → IsVariable (length declared) source → IsVariable (length declared) by → decided_in by (value_of values by) c ≡ Some (value_of values source)
-      → RowHolds (row_of draft) values → cond test (part_moved declared c source by draft) (Err NotDerived) ≡ Ok after → RowHolds (row_of after) values
-  narrow-sound source by c draft after true source_fits by_fits decided before is =
+  narrow-sound : (source by : VarId) (decided : ℤ → Option ℤ) (draft after : Draft) (test : Bool) → IsVariable (length declared) source → IsVariable (length declared) by → decided (value_of values by) ≡ Some (value_of values source)
+      → RowHolds (row_of draft) values → cond test (part_moved_so declared decided source by draft) (Err NotDerived) ≡ Ok after → RowHolds (row_of after) values
+  narrow-sound source by decided draft after true source_fits by_fits decides before is =
       let had = holds-exceeds values draft before in
-      exceeds-holds values after had.0 (part-exceeds source by c draft after had.0 source_fits by_fits decided had.2 is) had.1
-  narrow-sound source by c draft after false source_fits by_fits decided before is = absurd (no_error NotDerived after is)
+      exceeds-holds values after had.0 (part-exceeds source by decided draft after had.0 source_fits by_fits decides had.2 is) had.1
+  narrow-sound source by decided draft after false source_fits by_fits decides before is = absurd (no_error NotDerived after is)
 
   decided-sound : (source : VarId) (c : Constraint) (draft after : Draft) → IsWellFormedConstraint (length declared) c → HasBooleanSets declared c → Meets c values → RowHolds (row_of draft) values → decided_moved declared source draft c ≡ Ok after → RowHolds (row_of after) values
   decided-sound source c draft after well bits met before is = found (decider_in source c) refl is
     where
-      found : (o : Option VarId) → decider_in source c ≡ o → option_map_or (λ by. cond (is_narrow (set_of declared by)) (part_moved declared c source by draft) (Err NotDerived)) o (Err NotDerived) ≡ Ok after → RowHolds (row_of after) values
+      found : (o : Option VarId) → decider_in source c ≡ o → option_map_or (λ by. cond (is_narrow (set_of declared by)) (part_moved_so declared (λ (value : ℤ). decided_in by value c) source by draft) (Err NotDerived)) o (Err NotDerived) ≡ Ok after → RowHolds (row_of after) values
       found None decider made = absurd (no_error NotDerived after made)
       found (Some by) decider made =
           let fit = decided-variables (length declared) source by c well decider in
           let decided = decided-value values source by c (bits-choice declared values c within bits) met decider in
-          narrow-sound source by c draft after (is_narrow (set_of declared by)) fit.1 fit.0 decided before made
+          narrow-sound source by (λ (value : ℤ). decided_in by value c) draft after (is_narrow (set_of declared by)) fit.1 fit.0 decided before made
 
   constraint-sound : (var : VarId) (c : Constraint) (draft after : Draft) → IsWellFormedConstraint (length declared) c → HasBooleanSets declared c → Meets c values → RowHolds (row_of draft) values → part_moved_by declared var draft c ≡ Ok after → RowHolds (row_of after) values
   unfolding Meets IsWellFormedConstraint

@@ -9,8 +9,8 @@ use Rattle.fzn_meaning.specs.declared.constraint.Constraint.TheVariants.{Inverse
 use Rattle.fzn_cited.specs.declared.fault.DeriveFault.{DeriveFault}
 use Rattle.fzn_cited.specs.declared.fault.DeriveFault.TheVariants.{NoSuchConstraint, NotDerived}
 use Rattle.fzn_cited.specs.Cited.{constraint_at}
-use Rattle.fzn_dependence.specs.Decided.{decider_in}
-use Rattle.fzn_weights.specs.Moves.{weight_where, decided_weight, moved_from, span, is_narrow}
+use Rattle.fzn_dependence.specs.Decided.{decider_in, decided_in}
+use Rattle.fzn_weights.specs.Moves.{weight_where, moved_from, span, is_narrow}
 use Rattle.fzn_row.specs.Draft.{Draft, part_for}
 use Rattle.fzn_row.specs.Prices.{with_list}
 use Rattle.fzn_row.specs.Weights.{without_part}
@@ -22,14 +22,9 @@ part_moved_so declared decided source by draft =
     with_list by (without_part source draft) (least (set_of declared by))
     (moved_from (weight_where (set_of declared source) (part_for source draft.parts) decided) (least (set_of declared by)) (span (set_of declared by)) (part_for by (without_part source draft).parts).listed)
 
--- what the variable weighs moves to the one that decides it
-abbrev pub part_moved : List IntSet → Constraint → VarId → VarId → Draft → Result Draft DeriveFault
-part_moved declared constraint source by draft =
-    with_list by (without_part source draft) (least (set_of declared by))
-    (moved_from (decided_weight (set_of declared source) (part_for source draft.parts) by constraint) (least (set_of declared by)) (span (set_of declared by)) (part_for by (without_part source draft).parts).listed)
-
+-- it moves to the one that decides it
 abbrev pub decided_moved : List IntSet → VarId → Draft → Constraint → Result Draft DeriveFault
-decided_moved declared source draft constraint = option_map_or (λ by. if is_narrow (set_of declared by) then part_moved declared constraint source by draft else Err NotDerived) (decider_in source constraint) (Err NotDerived)
+decided_moved declared source draft constraint = option_map_or (λ by. if is_narrow (set_of declared by) then part_moved_so declared (λ value. decided_in by value constraint) source by draft else Err NotDerived) (decider_in source constraint) (Err NotDerived)
 
 -- by an inverse it moves to the places of the other list
 abbrev pub part_moved_by : List IntSet → VarId → Draft → Constraint → Result Draft DeriveFault

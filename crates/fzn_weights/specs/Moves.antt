@@ -1,12 +1,9 @@
 -- What the part of a variable weighs at the values of another one that decides its own.
 use Rattle.std.specs.Prelude.{ℕ, zero, suc, ◌+◌, ℤ, pos, ◌+ℤ◌, ◌-ℤ◌, Bool, ◌&&◌, if◌then◌else◌, nat_le, unsigned_abs, List, [], ◌∷◌, Option, None, option_and_then}
-use Rattle.fzn_domain.specs.declared.literal.VarId.{VarId}
 use Rattle.fzn_domain.specs.IntSet.{IntSet, contains, size, least, greatest}
-use Rattle.fzn_meaning.specs.declared.constraint.Constraint.{Constraint}
 use Rattle.fzn_meaning.specs.declared.row.Listed.{Listed}
 use Rattle.fzn_meaning.specs.declared.row.VariablePart.{VariablePart}
 use Rattle.fzn_meaning.specs.Separable.{listed_at, weight_at}
-use Rattle.fzn_dependence.specs.Decided.{decided_in}
 use Rattle.fzn_weights.specs.Weights.{both_weights}
 
 -- what the part weighs at the number, where that is in the set
@@ -16,10 +13,6 @@ weight_within set part number = if contains set number then weight_at part numbe
 -- what the part, whose variable has this set, weighs where that is what is decided at this value
 abbrev pub weight_where : IntSet → VariablePart → (ℤ → Option ℤ) → ℤ → Option ℤ
 weight_where set part decided value = option_and_then (weight_within set part) (decided value)
-
--- what the part, whose variable has this set, weighs where the other variable has this value
-abbrev pub decided_weight : IntSet → VariablePart → VarId → Constraint → ℤ → Option ℤ
-decided_weight set part by constraint value = option_and_then (weight_within set part) (decided_in by value constraint)
 
 -- for each of so many values from low on: what was listed for it, and what more it weighs
 abbrev pub moved_from : (ℤ → Option ℤ) → ℤ → ℕ → Option Listed → List (Option ℤ)

@@ -11,7 +11,7 @@ use Rattle.fzn_dependence.proofs.DecidedSound.{decided-variables, form-bounded}
 use Rattle.fzn_weights.specs.Moves.{is_narrow}
 use Rattle.fzn_row.specs.Draft.{Draft}
 use Rattle.fzn_row.specs.Room.{room_size, draft_of}
-use Rattle.fzn_row.proofs.MoveLemmas.{moved_so-is, decided-narrow, decided-wide}
+use Rattle.fzn_row.proofs.MoveLemmas.{moved-by_alike, decided-narrow, decided-wide}
 use Rattle.fzn_row.proofs.room.RowDeriver.move_decided.Goals as goal
 
 pub decider_of-requires : goal.decider_of-requires
@@ -42,11 +42,11 @@ returns-clause-ok c =
     let decider : decider_in c.args.source c.args.constraint.now ≡ Some c.in-Some.decider.by = sym c.decider_of.ensures.by ∙ ap (option_map (λ (found : Decider). found.by)) c.in-Some.is in
     let narrow = ap is_narrow (sym c.declared_set.ensures) ∙ sym c.is_narrow.ensures ∙ c.if-not-is_narrow.false in
     let value = subst (λ (o : Option Decider). IfSome o (λ found. (value : ℤ) → dependent_at found.dependence value ≡ decided_in found.by value c.args.constraint.now)) c.in-Some.is c.decider_of.ensures.value in
-    subst (λ (r : Result Draft DeriveFault). OnOk c.move_part.result (r ≡ Ok (draft_of c.move_part.new.self))) (moved_so-is (declared_sets c.args.vars.now) (dependent_at c.in-Some.decider.dependence) c.args.source c.in-Some.decider.by (draft_of c.args.self.now) c.args.constraint.now value ∙ sym (decided-narrow (declared_sets c.args.vars.now) c.args.source c.in-Some.decider.by (draft_of c.args.self.now) c.args.constraint.now decider narrow)) c.move_part.ensures.ok
+    subst (λ (r : Result Draft DeriveFault). OnOk c.move_part.result (r ≡ Ok (draft_of c.move_part.new.self))) (moved-by_alike (declared_sets c.args.vars.now) (dependent_at c.in-Some.decider.dependence) (λ (v : ℤ). decided_in c.in-Some.decider.by v c.args.constraint.now) c.args.source c.in-Some.decider.by (draft_of c.args.self.now) value ∙ sym (decided-narrow (declared_sets c.args.vars.now) c.args.source c.in-Some.decider.by (draft_of c.args.self.now) c.args.constraint.now decider narrow)) c.move_part.ensures.ok
 
 pub returns-clause-err : goal.returns-clause-err
 returns-clause-err c =
     let decider : decider_in c.args.source c.args.constraint.now ≡ Some c.in-Some.decider.by = sym c.decider_of.ensures.by ∙ ap (option_map (λ (found : Decider). found.by)) c.in-Some.is in
     let narrow = ap is_narrow (sym c.declared_set.ensures) ∙ sym c.is_narrow.ensures ∙ c.if-not-is_narrow.false in
     let value = subst (λ (o : Option Decider). IfSome o (λ found. (value : ℤ) → dependent_at found.dependence value ≡ decided_in found.by value c.args.constraint.now)) c.in-Some.is c.decider_of.ensures.value in
-    subst (λ (r : Result Draft DeriveFault). IfErr c.move_part.result (λ fault. (fault ≡ Memory) ⊎ (r ≡ Err fault))) (moved_so-is (declared_sets c.args.vars.now) (dependent_at c.in-Some.decider.dependence) c.args.source c.in-Some.decider.by (draft_of c.args.self.now) c.args.constraint.now value ∙ sym (decided-narrow (declared_sets c.args.vars.now) c.args.source c.in-Some.decider.by (draft_of c.args.self.now) c.args.constraint.now decider narrow)) c.move_part.ensures.err
+    subst (λ (r : Result Draft DeriveFault). IfErr c.move_part.result (λ fault. (fault ≡ Memory) ⊎ (r ≡ Err fault))) (moved-by_alike (declared_sets c.args.vars.now) (dependent_at c.in-Some.decider.dependence) (λ (v : ℤ). decided_in c.in-Some.decider.by v c.args.constraint.now) c.args.source c.in-Some.decider.by (draft_of c.args.self.now) value ∙ sym (decided-narrow (declared_sets c.args.vars.now) c.args.source c.in-Some.decider.by (draft_of c.args.self.now) c.args.constraint.now decider narrow)) c.move_part.ensures.err
