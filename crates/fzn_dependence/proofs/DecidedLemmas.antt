@@ -1,7 +1,6 @@
 -- Sums and the variables of places, one more place at a time.
-use Rattle.std.proofs.Common.{◌≡◌, ℕ, ◌+◌, ◌<◌, ◌≤◌, Bool, true, false, cond, nat_eq, List, [], ◌∷◌, ◌++◌, length, get_or, take, drop, refl, sym, ap, ◌∙◌, subst, arith, ℤ, pos, ◌+ℤ◌, ◌-ℤ◌, ◌*ℤ◌, Option, None, Some, option_and_then, not, ◌&&◌, is_none}
+use Rattle.std.proofs.Common.{◌≡◌, ℕ, ◌+◌, ◌<◌, ◌≤◌, Bool, true, false, cond, nat_eq, List, [], ◌∷◌, ◌++◌, length, get_or, take, drop, refl, sym, ap, ◌∙◌, subst, arith, ℤ, pos, ◌+ℤ◌, ◌*ℤ◌, Option, None, Some, option_and_then}
 use Rattle.std.specs.Option.{option_map_or}
-use Rattle.std.specs.Ordering.{int_eq}
 use Rattle.std.proofs.lemmas.Int.{ints}
 use Rattle.std.proofs.lemmas.List.{take_all, take_more, drop_more, take-append-drop}
 use Rattle.fzn_domain.specs.declared.literal.VarId.{VarId}
@@ -11,7 +10,7 @@ use Rattle.fzn_values.specs.declared.term.Place.{Place}
 use Rattle.fzn_meaning.specs.declared.constraint.Constraint.{Constraint}
 use Rattle.fzn_meaning.specs.declared.constraint.Constraint.TheVariants.{Element}
 use Rattle.fzn_builtin_rules.specs.Form.{Form, form_of}
-use Rattle.fzn_dependence.specs.Decided.{term_where, sum_where, coefficient_besides, another_in, another_of, sum_compares, bit, is_equal, quotient, is_place_of, is_decided, form_decider, form_value, decided_in}
+use Rattle.fzn_dependence.specs.Decided.{term_where, sum_where, coefficient_besides, another_in, another_of, form_value, decided_in}
 use Rattle.fzn_dependence.proofs.IntLemmas.{plus_times}
 
 module _ (var : VarId) (value other : ℤ) where
@@ -71,45 +70,6 @@ module _ (var : VarId) (rest coefficient besides : ℤ) (places : List Place) (i
 
   pub whole-besides : besides ≡ coefficient_besides var places
   whole-besides = let zero = whole (pos 0) (pos 0) in let one = whole (pos 0) (pos 1) in omega (arith, ints)
-
--- what a form makes of the variable that is decided, where the sum is this
-module _ (by : VarId) (value : ℤ) (found : Form) (sum bound : ℤ) (sum_is : sum ≡ sum_where by value (pos 0) found.places) (bound_is : bound ≡ found.bound) where
-  abbrev by_switch : Option Term → Option ℤ
-  by_switch switch = option_map_or (λ (s : Term). Some (bit (sum_compares found.comparison (sum_where by value (pos 0) found.places) found.bound))) switch (quotient (found.bound -ℤ sum_where by value (pos 0) found.places) (coefficient_besides by found.places))
-
-  pub switch-is : (switch : Term) → found.switch ≡ Some switch → ◌≡◌ {A = Option ℤ} (Some (bit (sum_compares found.comparison sum bound))) (form_value by value found)
-  switch-is switch is =
-      ap (λ (x : ℤ). Some (bit (sum_compares found.comparison x bound))) sum_is ∙ ap (λ (x : ℤ). Some (bit (sum_compares found.comparison (sum_where by value (pos 0) found.places) x))) bound_is
-      ∙ sym (ap by_switch is)
-
-  pub equation-is : (divisor : ℤ) → divisor ≡ coefficient_besides by found.places → found.switch ≡ None → quotient (bound -ℤ sum) divisor ≡ form_value by value found
-  equation-is divisor divisor_is is =
-      ap (λ (x : ℤ). quotient (bound -ℤ x) divisor) sum_is ∙ ap (λ (x : ℤ). quotient (x -ℤ sum_where by value (pos 0) found.places) divisor) bound_is
-      ∙ ap (quotient (found.bound -ℤ sum_where by value (pos 0) found.places)) divisor_is ∙ sym (ap by_switch is)
-
--- the variable that a form decides by this one
-module _ (var by : VarId) (found : Form) (other : another_of var var found.places ≡ Some by) where
-  decider-is : (test : Bool) → is_decided var by found ≡ test → cond test (Some by) None ≡ form_decider var found
-  decider-is test is =
-      sym (ap (option_and_then (λ (b : VarId). cond (is_decided var b found) (Some b) None)) other ∙ ap (λ (t : Bool). cond t (Some by) None) is)
-
-  pub decider-some : is_decided var by found ≡ true → Some by ≡ form_decider var found
-  decider-some = decider-is true
-
-  pub decider-none : is_decided var by found ≡ false → None ≡ form_decider var found
-  decider-none = decider-is false
-
-  abbrev decided_by : Option Term → Bool
-  decided_by switch = option_map_or
-      (λ (s : Term). is_place_of var s && is_none (another_of by by found.places))
-      switch
-      (is_equal found.comparison && is_none (another_of by var found.places) && not (int_eq (coefficient_besides by found.places) (pos 0)))
-
-  pub switch-decides : (switch : Term) → found.switch ≡ Some switch → is_decided var by found ≡ (is_place_of var switch && is_none (another_of by by found.places))
-  switch-decides switch is = ap decided_by is
-
-  pub equation-decides : found.switch ≡ None → is_decided var by found ≡ (is_equal found.comparison && is_none (another_of by var found.places) && not (int_eq (coefficient_besides by found.places) (pos 0)))
-  equation-decides is = ap decided_by is
 
 module _ (one two : VarId) where
   another-append : (xs ys : List Place) → another_of one two xs ≡ None → another_of one two (xs ++ ys) ≡ another_of one two ys
