@@ -11,7 +11,7 @@ use Rattle.fzn_rules.specs.Separable.{IsLeastWeight}
 use Rattle.fzn_trail.specs.Levels.{Levels}
 use Rattle.fzn_terms.proofs.FixedLemmas.{fixed_only}
 use Rattle.fzn_levels.proofs.TableLemmas.{table_fixed}
-pub use Rattle.fzn_levels.proofs.TableLemmas.{some_least}
+pub use Rattle.fzn_levels.proofs.LeastLemmas.{some_least}
 pub use Rattle.fzn_levels.proofs.WeightLemmas.{none_some, from_on, up_to, at_weight, listed_only, of_least, least_above}
 
 -- where all variables are fixed, a part weighs what it weighs at least

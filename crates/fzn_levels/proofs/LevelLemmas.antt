@@ -20,13 +20,14 @@ use Rattle.fzn_values.specs.declared.term.Term.{Term}
 use Rattle.fzn_values.specs.declared.term.Term.TheVariants.{Constant, Variable}
 use Rattle.fzn_meaning.specs.Separable.{weight_at}
 use Rattle.fzn_rules.specs.GlobalRows.{MayBeRow}
+use Rattle.fzn_rules.specs.Least.{Reaches}
 use Rattle.fzn_sets.specs.Terms.{MayBe}
 use Rattle.fzn_trail.specs.Levels.{Levels}
 use Rattle.fzn_propagator.specs.Clause.{IsFalseClause, AreLeftByClause}
 use Rattle.fzn_terms.specs.declared.claim.Claim.{Claim}
 use Rattle.fzn_terms.specs.Denied.{that, IsEntailed, IsClaimExplained, IsGrown}
 use Rattle.fzn_terms.proofs.OrderLemmas.{at_most, equal_of}
-use Rattle.fzn_levels.specs.Levels.{Reaches, IsNoLighter, IsEntryNoLighter, IsRowNoLighter, IsToldOut, SaysNoLighter}
+use Rattle.fzn_levels.specs.Levels.{IsNoLighter, IsEntryNoLighter, IsRowNoLighter, IsToldOut, SaysNoLighter}
 use Rattle.fzn_levels.proofs.WeightLemmas.{listed_only}
 
 pub grown-map : (trail : Levels) (P Q : List IntSet → Type 0) (old new : List Lit) → ((sets : List IntSet) → P sets → Q sets) → IsGrown trail P old new → IsGrown trail Q old new

@@ -1,4 +1,5 @@
 pub mod CallerLemmas
+mod LeastLemmas
 mod LevelLemmas
 mod TableLemmas
 mod WeightLemmas

@@ -1,4 +1,4 @@
--- What the parts of a row weigh at least on sets, and clauses that say so.
+-- Levels of the parts of a row, and clauses that say so.
 use Rattle.std.specs.Prelude.{◌≡◌, ◌≢◌, ℕ, ◌+◌, ◌*◌, ◌<◌, ◌≤◌, true, ℤ, pos, ◌+ℤ◌, ◌≤ℤ◌, ◌<ℤ◌, List, [], ◌∷◌, length, slice_index_or, Option, None, Some, unsigned_abs}
 use Rattle.std.specs.List.{All, Contains}
 use Rattle.std.proofs.Props.{props}
@@ -17,6 +17,7 @@ use Rattle.fzn_meaning.specs.declared.row.Row.{Row}
 use Rattle.fzn_meaning.specs.Separable.{weight_at, IsPart, AreApart, IsSeparableRow}
 use Rattle.fzn_rules.specs.GlobalRows.{MayBeRow}
 use Rattle.fzn_rules.specs.Separable.{IsWeightIn, IsLeastWeight}
+use Rattle.fzn_rules.specs.Least.{Reaches}
 use Rattle.fzn_sets.specs.Terms.{MayBe}
 use Rattle.fzn_trail.specs.Levels.{Levels}
 use Rattle.fzn_terms.specs.Denied.{IsGrown}
@@ -46,11 +47,6 @@ sum_of [] = pos 0
 sum_of (x ∷ xs) = x +ℤ sum_of xs
 
 -- ---- levels
-
--- the weight is no less than the level; where there is no level, none is
-abbrev pub Reaches : Option ℤ → ℤ → Type 0
-Reaches None weight = ⊥
-Reaches (Some level) weight = level ≤ℤ weight
 
 -- nothing that the part may weigh on the sets is less than the level; where there is none, it is barred there
 abbrev pub IsNoLighter : List IntSet → Part → Option ℤ → Type 0

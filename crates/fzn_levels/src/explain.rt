@@ -14,10 +14,12 @@ ghost use Rattle.fzn_levels.specs.Levels.{IsNoLighter, AreNoLighterBut, IsEntryN
 
 use crate::explain_table::explain_table;
 use crate::pass::Pass;
-use crate::weights::{entry_weight, is_light, value_at};
+use crate::told::Told;
+use crate::weights::{entry_weight, value_at};
 use fzn_domain::{GREATEST_VALUE, LEAST_VALUE, Lit, Memory};
 use fzn_list::Items;
 use fzn_meaning::{Listed, Part, VariablePart, weight_at};
+use fzn_rules::is_light;
 use fzn_terms::{Claim, Interval, explain, greatest_of, least_of};
 use fzn_values::Term;
 
@@ -35,9 +37,10 @@ pub fn explain_levels(
     ensures { OnOk result (SaysAllNoLighter pass.now.trail.now except pass.now.row.now.parts levels.now clause.old clause.new) }
 {
     let parts = pass.row.parts.as_slice();
+    let mut told = Told::new(pass.alloc);
     for k in 0..parts.len() {
         if k != except {
-            explain_part(pass, &parts[k], Some(levels[k]), clause)?;
+            explain_noted(pass, &parts[k], Some(levels[k]), &mut told, clause)?;
         }
     }
     Ok(())
@@ -56,9 +59,26 @@ pub fn explain_part(
     requires still { IsFalseClause pass.now.trail.now clause.old }
     ensures { OnOk result (SaysNoLighter pass.now.trail.now part.now level clause.old clause.new) }
 {
+    let mut told = Told::new(pass.alloc);
+    explain_noted(pass, part, level, &mut told, clause)
+}
+
+/// The same beside what is noted of the clause.
+fn explain_noted(
+    pass: &Pass,
+    part: &Part,
+    level: Option<i128>,
+    told: &mut Told,
+    clause: &mut Items<Lit>,
+) -> Result<(), Memory>
+    requires part { IsPart (length pass.now.trail.now.declared) part.now }
+    requires present { IsNoLighter pass.now.trail.now.sets part.now level }
+    requires still { IsFalseClause pass.now.trail.now clause.old }
+    ensures { OnOk result (SaysNoLighter pass.now.trail.now part.now level clause.old clause.new) }
+{
     match part {
         Part::Variable(part) => explain_variable(pass, part, level, clause),
-        Part::Table(table) => explain_table(pass, table, level, clause),
+        Part::Table(table) => explain_table(pass, table, level, told, clause),
     }
 }
 

@@ -1,5 +1,5 @@
 // Clauses that say what tables weigh at least: which of their rows no longer equal the places.
-ghost use Rattle.std.specs.Prelude.{◌<◌, length, IfSome, IfNone, OnOk};
+ghost use Rattle.std.specs.Prelude.{◌≡◌, ℕ, ◌+◌, ◌*◌, ◌<◌, pos, length, slice_index_or, IfSome, IfNone, OnOk};
 ghost use Rattle.fzn_domain.specs.Limits.{IsInLimits};
 ghost use Rattle.fzn_meaning.specs.declared.row.Part.TheVariants.{Table};
 ghost use Rattle.fzn_meaning.specs.Separable.{IsTablePart};
@@ -11,12 +11,11 @@ ghost use Rattle.fzn_terms.specs.Denied.{IsGrown};
 ghost use Rattle.fzn_levels.specs.Levels.{IsNoLighter, IsRowNoLighter, SaysNoLighter, IsPlaceOut};
 
 use crate::pass::Pass;
-use crate::tables::{entry_at, row_weight};
 use crate::told::Told;
-use crate::weights::is_light;
 use fzn_domain::{Lit, Memory};
 use fzn_list::Items;
 use fzn_meaning::TablePart;
+use fzn_rules::{is_light, row_weight};
 use fzn_terms::{Claim, explain, may_be};
 use fzn_values::Term;
 
@@ -26,6 +25,7 @@ pub(crate) fn explain_table(
     pass: &Pass,
     table: &TablePart,
     level: Option<i128>,
+    told: &mut Told,
     clause: &mut Items<Lit>,
 ) -> Result<(), Memory>
     requires table { IsTablePart (length pass.now.trail.now.declared) table.now }
@@ -33,9 +33,8 @@ pub(crate) fn explain_table(
     requires still { IsFalseClause pass.now.trail.now clause.old }
     ensures { OnOk result (SaysNoLighter pass.now.trail.now (Table table.now) level clause.old clause.new) }
 {
-    let mut told = Told::new(pass.alloc, table.places.as_slice(), clause.as_slice())?;
     for r in 0..table.weights.len() {
-        explain_row(pass, table, r, level, &mut told, clause)?;
+        explain_row(pass, table, r, level, told, clause)?;
     }
     Ok(())
 }
@@ -58,6 +57,7 @@ fn explain_row(
     if !is_light(row_weight(table, r), level) {
         return Ok(());
     }
+    told.read(clause.as_slice())?;
     let Some(k) = place_out(pass, table, r, told, clause) else {
         return Ok(()); // Not reached: a row that is so light does not equal the places.
     };
@@ -105,7 +105,7 @@ fn explain_out(
     pass: &Pass,
     term: Term,
     value: i64,
-    told: &mut Told,
+    told: &Told,
     clause: &mut Items<Lit>,
 ) -> Result<(), Memory>
     requires term { IsTerm (length pass.now.trail.now.declared) term }
@@ -114,11 +114,21 @@ fn explain_out(
     requires still { IsFalseClause pass.now.trail.now clause.old }
     ensures { OnOk result (IsGrown pass.now.trail.now (λ sets. MayBe sets term value → ⊥) clause.old clause.new) }
 {
-    if let Term::Variable(var) = term {
-        if told.is_barred(clause, var, &value) {
-            return Ok(());
-        }
-        told.note(var, &value, clause.len())?;
+    if let Term::Variable(var) = term
+        && told.is_barred(clause, var, &value)
+    {
+        return Ok(());
     }
     explain(pass.trail, Claim::other_than(term, value), clause)
+}
+
+/// The entry of row r at place k, both counted from 0.
+fn entry_at(table: &TablePart, r: usize, k: usize) -> i64
+    requires table { (count : ℕ) × IsTablePart count table.now }
+    requires row { r < length table.now.weights }
+    requires place { k < length table.now.places }
+    ensures value { result ≡ slice_index_or table.now.rows (r * length table.now.places + k) (pos 0) }
+    ensures in_limits { IsInLimits result }
+{
+    table.rows.constants()[r * table.places.len() + k].number()
 }

@@ -1,5 +1,5 @@
-// Which values of the places of a table a clause bars already.
-ghost use Rattle.std.specs.Prelude.{◌≤◌, length, vec_len, IsTrue};
+// Which values of variables a clause bars already.
+ghost use Rattle.std.specs.Prelude.{length, IsTrue};
 ghost use Rattle.fzn_values.specs.Term.{IsTerm};
 ghost use Rattle.fzn_levels.specs.Levels.{IsToldOut};
 
@@ -8,45 +8,78 @@ use fzn_list::Items;
 use fzn_trail::Trail;
 use fzn_values::Term;
 use std::alloc::Global;
+use std::collections::HashMap;
+
+/// A value of a variable.
+#[derive(Clone, Copy, Debug, PartialEq, Eq, Hash, Drop)]
+struct Barred {
+    /// The number of the variable, counted from 1.
+    var: usize,
+    value: i64,
+}
 
 /// Where the literals of a clause are that grows. No contract rests on it: each literal that is found so is looked at again.
-#[derive(Debug, Drop)]
+#[derive(Drop)]
 pub(crate) struct Told {
-    /// The indices of those on places of the table that are true at several values.
-    wide: Vec<usize>,
-    /// Those that are true at one value: variable, value and index.
-    values: Vec<(usize, i64, usize)>,
+    /// How many of them are noted.
+    seen: usize,
+    /// The index of one that is true at this value of the variable alone.
+    values: HashMap<Barred, usize>,
+    /// By the number of a variable: the index of the last one that is true of it up to a bound.
+    below: HashMap<usize, usize>,
+    /// That of the last one that is true of it from a bound on.
+    above: HashMap<usize, usize>,
 }
 
 impl Told {
-    /// Of this clause. `Err` where memory runs out.
-    pub(crate) fn new(alloc: Global, places: &[Term], clause: &[Lit]) -> Result<Told, Memory> {
-        let mut wide = Vec::new(alloc);
-        let mut values = Vec::new(alloc);
-        for (at, lit) in clause.iter().enumerate() {
-            if lit.op == Op::Equal {
-                values.push((lit.var.0, lit.value, at))?;
-            } else if places.contains(&Term::Variable(lit.var)) {
-                wide.push(at)?;
-            }
+    /// No literal is noted yet.
+    pub(crate) fn new(alloc: Global) -> Told {
+        Told {
+            seen: 0,
+            values: HashMap::new(alloc),
+            below: HashMap::new(alloc),
+            above: HashMap::new(alloc),
         }
-        values.sort()?;
-        Ok(Told { wide, values })
+    }
+
+    /// Notes the literals by which the clause has grown since the last time. `Err` where memory runs out.
+    pub(crate) fn read(&mut self, clause: &[Lit]) -> Result<(), Memory> {
+        for at in self.seen..clause.len() {
+            self.note(clause[at], at)?;
+        }
+        self.seen = clause.len();
+        Ok(())
+    }
+
+    fn note(&mut self, lit: Lit, at: usize) -> Result<(), Memory> {
+        let var = lit.var.0;
+        match lit.op {
+            Op::Equal => {
+                let value = lit.value;
+                self.values.insert(Barred { var, value }, at)?;
+            }
+            Op::AtMost => {
+                self.below.insert(var, at)?;
+            }
+            Op::AtLeast => {
+                self.above.insert(var, at)?;
+            }
+            Op::NotEqual => {}
+        }
+        Ok(())
     }
 
     /// Whether some literal of the clause is true where the variable has the value.
     pub(crate) fn is_barred(&self, clause: &Items<Lit>, var: VarId, value: &i64) -> bool
         ensures { IsTrue result → IsToldOut clause.now var value.now }
     {
-        for at in self.wide.iter() {
-            if is_true_at(clause, *at, var, value) {
-                return true;
-            }
-        }
-        match self.values.get(self.before(var, value)) {
-            Some(told) => is_true_at(clause, told.2, var, value),
-            None => false,
-        }
+        let barred = Barred {
+            var: var.0,
+            value: *value,
+        };
+        is_true_at(clause, self.values.get(&barred).copied(), var, value)
+            || is_true_at(clause, self.below.get(&var.0).copied(), var, value)
+            || is_true_at(clause, self.above.get(&var.0).copied(), var, value)
     }
 
     /// Whether nothing has to be added to the clause to say that the term has not the value.
@@ -66,28 +99,15 @@ impl Told {
             }
         }
     }
-
-    /// Notes that the literal at this index is true at this value of the variable alone. `Err` where memory runs out.
-    pub(crate) fn note(&mut self, var: VarId, value: &i64, at: usize) -> Result<(), Memory> {
-        let before = self.before(var, value);
-        self.values.insert(before, (var.0, *value, at))?;
-        Ok(())
-    }
-
-    /// How many values that are told come before this one.
-    fn before(&self, var: VarId, value: &i64) -> usize
-        ensures { result ≤ vec_len self.now.values }
-    {
-        self.values
-            .as_slice()
-            .partition_point(|told| (told.0, told.1) < (var.0, *value))
-    }
 }
 
-/// Whether the literal of the clause at the index is true where the variable has the value.
-fn is_true_at(clause: &Items<Lit>, at: usize, var: VarId, value: &i64) -> bool
+/// Whether the literal of the clause at the index, where there is one, is true where the variable has the value.
+fn is_true_at(clause: &Items<Lit>, at: Option<usize>, var: VarId, value: &i64) -> bool
     ensures { IsTrue result → IsToldOut clause.now var value.now }
 {
+    let Some(at) = at else {
+        return false;
+    };
     match clause.as_slice().get(at) {
         Some(lit) => lit.var == var && lit.is_true_at(*value),
         None => false,

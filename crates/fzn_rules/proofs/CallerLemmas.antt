@@ -1,4 +1,5 @@
--- What callers may cite: accepted clauses are true, and which sets are empty after a narrowing.
+-- What callers may cite: accepted clauses are true, which sets are empty after a narrowing, and what the first values of a list and the first
+-- rows of a table weigh at least.
 use Rattle.std.proofs.Common.{◌≡◌, ℕ, ◌-◌, ◌<◌, List, [], ◌∷◌, true, false, length, get_or, set, sym, ap, subst, ◌∙◌, inl, inr, arith, ℤ, nat_eq}
 use Rattle.std.specs.List.{Any}
 use Rattle.std.proofs.lemmas.Bool.{cases_Bool, cases_eq, true≢false, eqb-true, eq-eqb, ne_eqb}
@@ -16,6 +17,8 @@ use Rattle.fzn_rules.specs.declared.rule.Rule.{Rule}
 use Rattle.fzn_rules.specs.Rules.{IsAcceptedBy}
 use Rattle.fzn_rules.proofs.RuleSound.{rule_sound}
 use Rattle.fzn_sets.proofs.CallerLemmas.{nonempty_at}
+pub use Rattle.fzn_rules.proofs.LeastLemmas.{IsWeightBefore, before-none, before-skip, before-more, before-all, least-down, least-up, least-plain, least-listed}
+pub use Rattle.fzn_rules.proofs.TableWeightLemmas.{IsRowWeightBefore, rows-none, rows-more, rows-all}
 
 -- A clause that is accepted from a constraint is true at each assignment within the declared sets that meets the constraint.
 pub accepted_by_sound : (constraint : Constraint) (rule : Rule) (declared : List IntSet) (clause : List Lit) → IsWellFormedConstraint (length declared) constraint → IsClauseOver (length declared) clause → IsAcceptedBy constraint rule declared clause → (assignment : List ℤ) → IsWithin declared assignment → HasBooleanValues assignment constraint → Meets constraint assignment → is_clause_true assignment clause ≡ true

@@ -5,7 +5,7 @@ mod EnergyTest
 mod GlobalRowsSound
 mod HallSound
 mod HallTest
-pub mod LeastLemmas
+mod LeastLemmas
 mod LoadSound
 mod PairSound
 mod PlacesLemmas

@@ -1,5 +1,5 @@
 -- What a table weighs at the rows whose values are in the sets of their places.
-use Rattle.std.proofs.Common.{◌≡◌, ◌⊎◌, ℕ, suc, ◌+◌, ◌*◌, ◌<◌, true, List, [], ◌∷◌, length, get_or, drop, sym, ap, ◌∙◌, subst, inl, inr, arith, ℤ, pos, Option, None, Some}
+use Rattle.std.proofs.Common.{◌≡◌, ◌⊎◌, ℕ, suc, ◌+◌, ◌*◌, ◌<◌, true, List, [], ◌∷◌, length, get_or, drop, sym, ap, ◌∙◌, subst, inl, inr, arith, ℤ, pos, Option, None, Some, IfSome}
 use Rattle.std.proofs.lemmas.Bool.{cases_Bool, cases_lt}
 use Rattle.std.proofs.lemmas.List.{get_or-take, get_or-drop}
 use Rattle.fzn_domain.specs.IntSet.{IntSet}
@@ -12,7 +12,7 @@ use Rattle.fzn_values.proofs.CallerLemmas.{get_or-values_of}
 use Rattle.fzn_meaning.proofs.TableWeightLemmas.{begins-take}
 use Rattle.fzn_sets.proofs.CallerLemmas.{MayBe-term_value, length-values_of}
 use Rattle.fzn_rules.specs.Separable.{IsLeastOf, IsTableWeightIn}
-use Rattle.fzn_rules.specs.Least.{IsRowWeight, lesser}
+use Rattle.fzn_rules.specs.Least.{IsRowWeight, lesser, Reaches}
 use Rattle.fzn_rules.proofs.LeastLemmas.{least-same, least-or}
 
 -- ---- the rows, one after another
@@ -36,6 +36,28 @@ module _ (sets : List IntSet) (table : TablePart) where
             inr (subst (λ (r : ℕ). IsRowWeight sets table r w) same at.2)
       ])
       (least-or (IsRowWeightBefore sets table i) (IsRowWeight sets table i) least weight so_far here)
+
+  -- the next row weighs no less than the least one
+  pub rows-heavy : (i : ℕ) (least : Option ℤ) → IsLeastOf (IsRowWeightBefore sets table i) least → IfSome (get_or table.weights i None) (Reaches least) → IsLeastOf (IsRowWeightBefore sets table (i + 1)) least
+  rows-heavy i least so_far heavy = by least so_far heavy
+    where
+      earlier : (w : ℤ) → IsRowWeightBefore sets table i w → IsRowWeightBefore sets table (i + 1) w
+      earlier w (r, below, at) = (r, omega arith, at)
+
+      last : (w : ℤ) → IsRowWeightBefore sets table (i + 1) w → IsRowWeightBefore sets table i w ⊎ (get_or table.weights i None ≡ Some w)
+      last w (r, below, at) = elim (cases_lt r i) [
+        | inl lt ↦ inl (r, lt, at)
+        | inr past ↦
+            let same : r ≡ i = omega arith in
+            inr (ap (λ (k : ℕ). get_or table.weights k None) (sym same) ∙ at.1)
+      ]
+
+      reached : (found : Option ℤ) (w : ℤ) → IfSome (get_or table.weights i None) (Reaches found) → get_or table.weights i None ≡ Some w → Reaches found w
+      reached found w h e = subst (λ (o : Option ℤ). IfSome o (Reaches found)) e h
+
+      by : (found : Option ℤ) → IsLeastOf (IsRowWeightBefore sets table i) found → IfSome (get_or table.weights i None) (Reaches found) → IsLeastOf (IsRowWeightBefore sets table (i + 1)) found
+      by None none h = λ w at. elim (last w at) [ inl before ↦ none w before | inr here ↦ reached None w h here ]
+      by (Some a) (own, first) h = (earlier a own, λ w at. elim (last w at) [ inl before ↦ first w before | inr here ↦ reached (Some a) w h here ])
 
   pub rows-all : (least : Option ℤ) → IsLeastOf (IsRowWeightBefore sets table (length table.weights)) least → IsLeastOf (IsTableWeightIn sets table) least
   rows-all least h = least-same (IsRowWeightBefore sets table (length table.weights)) (IsTableWeightIn sets table) least

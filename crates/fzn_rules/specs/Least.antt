@@ -1,5 +1,5 @@
 -- What a variable weighs at least at the values of a set, with and without a list, and what one row of a table does.
-use Rattle.std.specs.Prelude.{◌≡◌, true, ℕ, ℤ, ◌*ℤ◌, ◌-ℤ◌, int_lt, if◌then◌else◌, List, slice_index_or, Option, None, Some}
+use Rattle.std.specs.Prelude.{◌≡◌, true, ℕ, ℤ, ◌*ℤ◌, ◌-ℤ◌, ◌≤ℤ◌, int_lt, if◌then◌else◌, List, slice_index_or, Option, None, Some}
 use Rattle.fzn_domain.specs.IntSet.{IntSet, contains}
 use Rattle.fzn_meaning.specs.declared.row.Listed.{Listed}
 use Rattle.fzn_meaning.specs.declared.row.TablePart.{TablePart}
@@ -23,3 +23,8 @@ abbrev pub lesser : Option ℤ → Option ℤ → Option ℤ
 lesser None second = second
 lesser (Some a) None = Some a
 lesser (Some a) (Some b) = Some (if int_lt b a then b else a)
+
+-- the weight is no less than the level; where there is no level, none is
+abbrev pub Reaches : Option ℤ → ℤ → Type 0
+Reaches None weight = ⊥
+Reaches (Some level) weight = level ≤ℤ weight

@@ -8,6 +8,7 @@ ghost use Rattle.fzn_rules.specs.Separable.{IsLeastOf, IsVariableWeightIn, IsTab
 ghost use Rattle.fzn_rules.specs.Least.{lesser, IsListedWeightIn, IsProductIn, IsRowWeight};
 
 use crate::global_rows::is_row_out;
+use crate::light::{is_light, row_weight};
 use fzn_domain::Domain;
 use fzn_meaning::{Constraint, Listed, Part, Row, TablePart, VariablePart, product, weighed};
 use fzn_sets::Sets;
@@ -42,8 +43,9 @@ fn is_separable_met(row: &Row, sets: &Sets) -> bool
     (row.bound as i128) < sum
 }
 
-/// The least weight of the values or rows that are present and not barred.
-fn least_weight(part: &Part, sets: &Sets) -> Option<i128>
+/// What the part weighs at least at the values or rows that are present and not barred; `None` where there is none. It lies at most
+/// 10^12 * 2^63 + 10^18 from 0. There is a set for each variable of the part, and none is empty.
+pub fn least_weight(part: &Part, sets: &Sets) -> Option<i128>
     requires part { IsPart (length sets.now.present) part.now }
     requires nonempty { is_some_empty sets.now.present ≡ false }
     ensures least { IsLeastWeight sets.now.present part.now result }
@@ -55,8 +57,9 @@ fn least_weight(part: &Part, sets: &Sets) -> Option<i128>
     }
 }
 
-/// The least weight of the values of the set that are not barred.
-fn least_at_values(part: &VariablePart, set: &Domain) -> Option<i128>
+/// What the variable of the part weighs at least at the values of the set that are not barred; `None` where there is none. The set has a
+/// value.
+pub fn least_at_values(part: &VariablePart, set: &Domain) -> Option<i128>
     requires coefficient { IsCoefficient part.now.coefficient }
     requires listed { IfSome part.now.listed IsWeightList }
     requires some { 0 < size set.now }
@@ -101,7 +104,7 @@ fn least_listed(coefficient: i64, listed: &Listed, set: &Domain) -> Option<i128>
     least
 }
 
-/// The least weight of the rows that are not barred, and whose values are all present.
+/// The least weight of the rows that are not barred, and whose values are all present. A row is looked at only where it would be lighter.
 fn least_at_rows(table: &TablePart, sets: &Sets) -> Option<i128>
     requires { IsTablePart (length sets.now.present) table.now }
     ensures least { IsLeastOf (IsTableWeightIn sets.now.present table.now) result }
@@ -109,8 +112,10 @@ fn least_at_rows(table: &TablePart, sets: &Sets) -> Option<i128>
 {
     let mut least = None;
     for r in 0..table.weights.len() {
-        let weight = weight_at_row(table, sets, r);
-        least = lesser(least, weight);
+        let weight = row_weight(table, r);
+        if is_light(weight, least) {
+            least = lesser(least, weight_at_row(table, sets, r));
+        }
     }
     least
 }

@@ -11,7 +11,6 @@ use Rattle.fzn_meaning.specs.declared.row.Part.{Part}
 use Rattle.fzn_meaning.specs.declared.row.Row.{Row}
 use Rattle.fzn_meaning.specs.Separable.{IsPart, IsSeparableRow}
 use Rattle.fzn_rules.specs.Separable.{IsLeastWeight, IsLeastTotal, IsSeparableMet}
-use Rattle.fzn_trail.specs.Levels.{Levels}
 use Rattle.fzn_levels.specs.Levels.{IsWeight, sum_of, IsNoLighter, AreNoLighterBut, AreLeasts, AreEnough}
 use Rattle.fzn_levels.proofs.CallerLemmas.{some_least, of_least, least_above}
 

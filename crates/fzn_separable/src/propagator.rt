@@ -12,9 +12,10 @@ ghost use Rattle.fzn_separable.specs.Propagator.{row_number, RowIsFor, RowFits, 
 use crate::copy::copied_row;
 use crate::search::find_all;
 use fzn_domain::Memory;
-use fzn_levels::{Pass, least_value_weight};
+use fzn_levels::Pass;
 use fzn_meaning::{Part, Row, TablePart, Var, VariablePart};
 use fzn_propagator::{Cost, Event, Findings, Propagator, Subscriptions};
+use fzn_rules::least_at_values;
 use fzn_trail::Trail;
 use fzn_values::Term;
 use std::alloc::{AllocError, Global};
@@ -134,9 +135,7 @@ fn value_floor(vars: &[Var], part: &VariablePart) -> i128
     requires { (count : ℕ) × IsVariablePart count part.now }
 {
     match vars.get(part.var.0.wrapping_sub(1)) {
-        Some(var) if !var.domain.is_empty() => {
-            least_value_weight(part, &var.domain).unwrap_or(0)
-        }
+        Some(var) if !var.domain.is_empty() => { least_at_values(part, &var.domain).unwrap_or(0) }
         _ => 0,
     }
 }

@@ -8,10 +8,10 @@ ghost use Rattle.fzn_separable.specs.Passes.{constraint_of, AreFoundOfRow, AreLe
 
 use crate::values::find_values;
 use fzn_domain::Memory;
-use fzn_levels::{Pass, are_enough, explain_levels, explain_part, least_weight, levels_of, sum_of};
+use fzn_levels::{Pass, are_enough, explain_levels, explain_part, levels_of, sum_of};
 use fzn_list::Items;
 use fzn_propagator::Findings;
-use fzn_rules::Rule;
+use fzn_rules::{Rule, least_weight};
 
 /// Finds that the row cannot be met, or else the values that cannot be taken.
 pub(crate) fn find_all(pass: &Pass, found: &mut Findings) -> Result<(), Memory>

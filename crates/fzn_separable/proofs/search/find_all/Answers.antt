@@ -1,12 +1,15 @@
 use mir.Syntax.{w128}
 use Rattle.std.proofs.lemmas.Int.{to_z-of_z}
-use Rattle.std.proofs.Common.{rules, arith, FitsSigned, ◌++◌, ◌∷◌, [], ◌≡◌, ◌∙◌, sym, ap, subst, ◌≤◌, ◌<◌, length, List, ℤ, None, Some, get_or}
+use Rattle.std.proofs.Common.{rules, arith, FitsSigned, ◌++◌, ◌∷◌, [], ◌≡◌, ◌∙◌, sym, ap, subst, ◌+◌, ◌*◌, ◌^◌, ◌≤◌, ◌<◌, length, List, ℤ, unsigned_abs, None, Some, get_or}
 use Rattle.fzn_domain.specs.IntSet.{IntSet}
 use Rattle.fzn_meaning.specs.declared.row.Part.{Part}
 use Rattle.fzn_rules.specs.Separable.{IsLeastWeight}
-use Rattle.fzn_levels.specs.Levels.{AreLeasts}
+use Rattle.fzn_levels.specs.Levels.{IsWeight, AreLeasts}
 use Rattle.fzn_separable.proofs.TotalLemmas.{leasts-more, leasts-all, part_at}
 use Rattle.fzn_separable.proofs.search.find_all.Goals as goal
+
+bounded : (least : ℤ) → unsigned_abs least ≤ 1000000000000 * 2 ^ 63 + 1000000000000000000 → IsWeight least
+bounded least within = omega arith
 
 pub find_barred-requires-clause-barred : goal.find_barred-requires-clause-barred
 find_barred-requires-clause-barred c = λ default.
@@ -25,7 +28,7 @@ loop-k-preserved c =
     record {
       leasts = leasts-more c.args.pass.now.trail.now.sets c.args.pass.now.row.now.parts c.loop-k.k part c.in-Some.least c.loop-k.leasts.items c.push.new.self.items inside
           (c.index-parts-k.is ∙ ap (λ (ps : List Part). get_or ps c.loop-k.k part) c.as_slice-parts.ensures) c.loop-k.invariant.leasts
-          (subst (λ (sets : List IntSet). IsLeastWeight sets part (Some c.in-Some.least)) c.sets.ensures.present c.in-Some.ensures.least) c.in-Some.ensures.bounded
+          (subst (λ (sets : List IntSet). IsLeastWeight sets part (Some c.in-Some.least)) c.sets.ensures.present c.in-Some.ensures.least) (bounded c.in-Some.least c.in-Some.ensures.bounded)
           (c.in_ok-push-in-Some.ensures.items ∙ ap (λ (x : ℤ). c.loop-k.leasts.items ++ x ∷ []) (to_z-of_z w128 c.in-Some.least fits));
       within = omega (arith, inside);
       before = c.loop-k.invariant.before;

@@ -5,7 +5,7 @@ use Rattle.fzn_domain.proofs.DomainLemmas.{real}
 use Rattle.fzn_values.specs.declared.term.Term.TheVariants.{Constant}
 use Rattle.fzn_values.specs.Term.{number_in}
 use Rattle.fzn_levels.proofs.TableLemmas.{place_inside}
-use Rattle.fzn_levels.proofs.tables.entry_at.Goals as goal
+use Rattle.fzn_levels.proofs.explain_table.entry_at.Goals as goal
 
 pub returns-clause-in_limits : goal.returns-clause-in_limits
 returns-clause-in_limits c =
