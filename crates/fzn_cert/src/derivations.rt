@@ -1,7 +1,7 @@
 // The line of a derivation, word after word.
 ghost use Rattle.std.specs.Prelude.{◌≡◌, ◌++◌, [], ◌∷◌, map, codes, OnOk, string_bytes};
 ghost use Rattle.std.specs.List.{flat_map};
-ghost use Rattle.std.specs.Fmt.{decimal, signed_decimal};
+ghost use Rattle.std.specs.Fmt.{decimal};
 ghost use Rattle.fzn_cert.specs.Derivations.{multiple_words, var_text, priced_words, item_words, derivation_text};
 ghost use Rattle.fzn_cert.specs.Parts.{after_space, after_spaces, derivation_parts};
 

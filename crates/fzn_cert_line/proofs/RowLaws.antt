@@ -10,7 +10,7 @@ use Rattle.fzn_row.specs.declared.item.RowItem.{RowItem}
 use Rattle.fzn_row.specs.declared.item.RowItem.TheVariants.{Multiples, Prices, Move, Columns, Rows}
 use Rattle.fzn_cert.specs.Spelling.{IsNumber}
 use Rattle.fzn_cert.specs.Words.{◌>>=◌, positive_of, items_of}
-use Rattle.fzn_cert.specs.Derivations.{var_text, priced_words, item_words, IsMultiplier, IsVariableNumber, IsFirstPriced, ArePriced, IsRowItem, multiplier_of, variable_of, multiples_of, first_priced_of, priced_of, only_variable_of, behind_number, prices_of, move_of, columns_of, rows_of, row_item_of, is_letter, before_item, items_among, row_items_of}
+use Rattle.fzn_cert.specs.Derivations.{var_text, priced_words, item_words, IsMultiplier, IsVariableNumber, IsFirstPriced, ArePriced, IsRowItem, multiplier_of, multiples_of, first_priced_of, priced_of, only_variable_of, behind_number, prices_of, move_of, columns_of, rows_of, row_item_of, is_letter, before_item, items_among, row_items_of}
 use Rattle.fzn_cert.proofs.CallerLemmas.{some_is}
 use Rattle.fzn_cert_line.proofs.OptionLaws.{bind_some, chosen}
 use Rattle.fzn_cert_line.proofs.WordLaws.{number_takes, within_takes, items_take}

@@ -95,10 +95,10 @@ fn mark_item(marks: &mut Vec<bool>, item: &RowItem)
 {
     match item {
         RowItem::Multiples(multiples) => mark_multiples(marks, multiples.as_slice()),
-        RowItem::Prices { constraint, .. } => mark(marks, *constraint),
-        RowItem::Move { constraint, .. } => mark(marks, *constraint),
-        RowItem::Columns { constraint, .. } => mark(marks, *constraint),
-        RowItem::Rows { constraint, .. } => mark(marks, *constraint),
+        RowItem::Prices { constraint, .. }
+        | RowItem::Move { constraint, .. }
+        | RowItem::Columns { constraint, .. }
+        | RowItem::Rows { constraint, .. } => mark(marks, *constraint),
     }
 }
 

@@ -54,7 +54,8 @@ abbrev pub listed_in : List Part → ℕ
 listed_in [] = 0
 listed_in (part ∷ parts) = listed_of part + listed_in parts
 
--- those that are held of a constraint of a kind that is derived: of a row its parts, what is listed for variables, and all numbers of its tables
+-- those that are held of a constraint of a kind that is derived: of a row its parts, what is listed for variables, and all numbers of its
+-- tables
 abbrev pub terms_held : Constraint → ℕ
 terms_held (Linear sum comparison bound switch) = length sum
 terms_held (ArrayBoolXor inputs) = length inputs

@@ -1,13 +1,12 @@
 // The first lines of a certificate of version three.
-ghost use Rattle.std.specs.Prelude.{◌≡◌, ◌++◌, [], ◌∷◌, ◌+◌, ◌<◌, ◌≤◌, false, true, length, string_bytes, option_map, IfOk, IfErr, OnOk, OnErr, IsTrue};
+ghost use Rattle.std.specs.Prelude.{◌≡◌, ◌++◌, ◌+◌, ◌<◌, ◌≤◌, false, true, length, string_bytes, option_map, IfOk, IsTrue};
 ghost use Rattle.std.specs.List.{All};
 ghost use Rattle.fzn_meaning.specs.Meaning.{longest, IsWellFormedConstraint};
 ghost use Rattle.fzn_meaning.specs.WellFormed.{IsWellFormed};
 ghost use Rattle.fzn_cert.specs.Derivations.{IsDerivation, IsMultiplier, IsMultiple, IsVariableNumber, IsFirstPriced, ArePriced, IsRowItem};
 ghost use Rattle.fzn_cert.specs.Spelling.{IsNumber};
-ghost use Rattle.fzn_head.specs.Extended.{Extends};
 ghost use Rattle.fzn_head.specs.Extender.{IsReadyFor, most_terms};
-ghost use Rattle.fzn_head.specs.Head.{three_line, head_counts_line, derivation_line, HasDerivationLine};
+ghost use Rattle.fzn_head.specs.Head.{three_line, head_counts_line};
 ghost use Rattle.fzn_head.specs.Opening.{IsDerivedOpening, IsLinePushed};
 
 use crate::extender::Extender;
@@ -125,17 +124,17 @@ fn is_item(item: &RowItem) -> bool
             low,
             prices,
         } => is_number(*constraint) && are_priced(*low, prices.as_slice()),
-        RowItem::Move {
-            constraint,
-            variable,
-        } => is_number(*constraint) && is_number(variable.0 as u64),
         RowItem::Columns {
             constraint,
             column,
             low,
             prices,
         } => is_number(*constraint) && is_number(*column) && are_priced(*low, prices.as_slice()),
-        RowItem::Rows {
+        RowItem::Move {
+            constraint,
+            variable,
+        }
+        | RowItem::Rows {
             constraint,
             variable,
         } => is_number(*constraint) && is_number(variable.0 as u64),

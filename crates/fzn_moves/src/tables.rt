@@ -7,7 +7,7 @@ use fzn_values::Term;
 use std::alloc::Global;
 
 /// A table of more numbers is left out: a row costs what all its tables have in each round.
-const MOST_NUMBERS: usize = 20_000;
+const LARGEST_TABLE: usize = 20_000;
 
 /// So many numbers of tables are looked at, at the most.
 const MOST_LOOKS: u64 = 400_000;
@@ -30,7 +30,7 @@ impl TableView<'_> {
             return None;
         };
         let numbers = rows.constants();
-        if MOST_NUMBERS < numbers.len() {
+        if LARGEST_TABLE < numbers.len() {
             return None;
         }
         Some(TableView {
@@ -123,23 +123,27 @@ impl Moves {
         Ok(())
     }
 
-    /// Whether something of the table may move to this variable.
-    fn has_movable(
+    /// The first variable of the table that may move, and the last other one; the first twice, where there is no other.
+    fn movable(
         &self,
         table: TableView<'_>,
-        key: usize,
         bounds: &[Bounds],
         used: &[bool],
-    ) -> bool {
+    ) -> Option<(usize, usize)> {
+        let mut found = None;
         for term in table.places {
             if let Term::Variable(var) = *term
-                && var.0.saturating_sub(1) != key
                 && self.is_movable(var.0.saturating_sub(1), bounds, used)
             {
-                return true;
+                let variable = var.0.saturating_sub(1);
+                found = match found {
+                    None => Some((variable, variable)),
+                    Some((first, _)) if first != variable => Some((first, variable)),
+                    Some(_) => found,
+                };
             }
         }
-        false
+        found
     }
 
     fn is_movable(&self, variable: usize, bounds: &[Bounds], used: &[bool]) -> bool {
@@ -158,13 +162,16 @@ impl Moves {
         used: &[bool],
         work: &mut Work,
     ) -> Result<Option<Key>, Memory> {
+        let Some((one, other)) = self.movable(table, bounds, used) else {
+            return Ok(None);
+        };
         let mut place = 0usize;
         for term in table.places {
             if let Term::Variable(var) = *term
                 && let Some(width) = width_of(bounds, var.0.saturating_sub(1))
                 && 1 < width
                 && width <= MOST_VALUES
-                && self.has_movable(table, var.0.saturating_sub(1), bounds, used)
+                && (one != var.0.saturating_sub(1) || other != var.0.saturating_sub(1))
                 && work.take(width.saturating_add(table.len()))
                 && let Some(key) = key_at(alloc, model, table, bounds, place)?
             {

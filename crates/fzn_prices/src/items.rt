@@ -1,7 +1,6 @@
 // The items that multipliers and prices make.
 use crate::ascent::{Ascent, part};
 use crate::multiplier::Multiplier;
-use crate::tables::part as prices_of;
 use fzn_cited::Multiple;
 use fzn_domain::{Memory, VarId};
 use fzn_list::Items;
@@ -112,7 +111,7 @@ fn push_columns(
     for table in problem.tables.all.iter() {
         for column in problem.tables.columns_of(*table) {
             let mut numbers = Vec::new(alloc);
-            for price in prices_of(&ascent.columns, *column) {
+            for price in part(&ascent.columns, column.start, column.end) {
                 numbers.push(price.number)?;
             }
             push_cut(

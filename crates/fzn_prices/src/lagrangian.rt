@@ -1,5 +1,5 @@
 // The objective with a sum of rows, each times its multiplier, and with prices, where each variable is free within its declared set.
-use crate::multiplier::{Multiplier, narrowed};
+use crate::multiplier::Multiplier;
 use fzn_domain::Memory;
 use fzn_moves::{Exchange, Move, NO_ENTRY};
 use fzn_multipliers::{Row, Rows};

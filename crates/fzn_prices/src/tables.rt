@@ -1,4 +1,5 @@
 // The rows of tables: what they weigh by the prices of their entries and by what goes to them.
+use crate::ascent::part;
 use crate::lagrangian::Lagrangian;
 use crate::multiplier::Multiplier;
 use fzn_relaxation::{Column, Problem, Table};
@@ -18,7 +19,7 @@ impl Lagrangian {
             return;
         };
         let mut number = column.low;
-        for price in part(prices, column) {
+        for price in part(prices, column.start, column.end) {
             if let Some(place) = list.place_of(number)
                 && let Some(weight) = self.weights.get_mut(place)
             {
@@ -155,14 +156,5 @@ fn change(prices: &mut Vec<Multiplier>, place: Option<usize>, by: i64) {
         && let Some(price) = prices.get_mut(place)
     {
         price.excess = price.excess.saturating_add(by);
-    }
-}
-
-/// The prices of a column.
-pub fn part(prices: &[Multiplier], column: Column) -> &[Multiplier] {
-    if column.start <= column.end && column.end <= prices.len() {
-        &prices[column.start..column.end]
-    } else {
-        &[]
     }
 }

@@ -97,7 +97,7 @@ impl Chosen {
     ) -> Result<Vec<u64>, Memory> {
         let mut left = Vec::new(alloc);
         for number in waiting {
-            if let Some(table) = self.table(model, *number)
+            if let Some(table) = table_at(model, *number)
                 && self.has_used(*number, table, bounds, used)
                 && work.take(table.len())
             {
@@ -137,12 +137,6 @@ impl Chosen {
         }
     }
 
-    /// The table of this number.
-    pub fn table<'a>(&self, model: &'a Model, number: u64) -> Option<TableView<'a>> {
-        let place = usize::try_from(number).ok()?.checked_sub(1)?;
-        TableView::of(model.constraints.as_slice().get(place)?)
-    }
-
     /// The number, less one, of the variable of a place of this table, unless it has one value or moves by the table.
     pub fn live(&self, number: u64, term: Term, bounds: &[Bounds]) -> Option<usize> {
         let Term::Variable(var) = term else {
@@ -160,4 +154,10 @@ impl Chosen {
     pub fn weighs(&self, variable: usize) -> bool {
         self.weighs.get(variable).copied() == Some(true)
     }
+}
+
+/// The table of this number.
+pub fn table_at<'a>(model: &'a Model, number: u64) -> Option<TableView<'a>> {
+    let place = usize::try_from(number).ok()?.checked_sub(1)?;
+    TableView::of(model.constraints.as_slice().get(place)?)
 }

@@ -1,6 +1,6 @@
 // The tables whose rows are weighed.
 use crate::apart::Aparts;
-use crate::choosing::Chosen;
+use crate::choosing::{Chosen, table_at};
 use fzn_domain::Memory;
 use fzn_meaning::Model;
 use fzn_moves::{Moves, TableView};
@@ -123,7 +123,7 @@ impl Tables {
         let mut uses = Uses::of(alloc, bounds.len(), chosen, aparts, moves, objective)?;
         let kept = uses.kept_of(alloc, model, bounds, chosen)?;
         for number in kept.iter() {
-            if let Some(table) = chosen.table(model, *number) {
+            if let Some(table) = table_at(model, *number) {
                 tables.add(alloc, model, bounds, chosen, &uses, *number, table, room)?;
             }
         }
@@ -404,7 +404,7 @@ impl Uses {
         number: u64,
         is_in: bool,
     ) {
-        let Some(table) = chosen.table(model, number) else {
+        let Some(table) = table_at(model, number) else {
             return;
         };
         for term in table.places {
@@ -422,7 +422,7 @@ impl Uses {
 
     /// Whether at least two columns of the table weigh something.
     fn has_two(&self, model: &Model, bounds: &[Bounds], chosen: &Chosen, number: u64) -> bool {
-        let Some(table) = chosen.table(model, number) else {
+        let Some(table) = table_at(model, number) else {
             return false;
         };
         let mut count = 0usize;

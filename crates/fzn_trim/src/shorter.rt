@@ -1,5 +1,5 @@
 // The head of a certificate without the lines that nothing needs, and the test of it with the steps of a plan.
-ghost use Rattle.std.specs.Prelude.{◌≡◌, ◌+◌, ◌≤◌, Ok, length, string_bytes, IfOk, IfSome, OnOk};
+ghost use Rattle.std.specs.Prelude.{◌+◌, ◌≤◌, Ok, length, string_bytes, IfOk, IfSome, OnOk};
 ghost use Rattle.fzn_meaning.specs.declared.model.Model.{Model};
 ghost use Rattle.fzn_meaning.specs.Meaning.{longest};
 ghost use Rattle.fzn_meaning.specs.WellFormed.{IsWellFormed};
