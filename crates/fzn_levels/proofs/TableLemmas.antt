@@ -1,6 +1,5 @@
 -- What a table weighs where its places are fixed.
 use Rattle.std.proofs.Common.{rules, ◌≡◌, ℕ, zero, suc, ◌+◌, ◌*◌, ◌<◌, ◌≤◌, List, [], ◌∷◌, Bool, true, ◌&&◌, length, drop, get_or, refl, sym, ap, subst, ◌∙◌, inl, inr, arith, ℤ, pos, Option, None, Some}
-use Rattle.std.specs.Ordering.{int_eq}
 use Rattle.std.proofs.lemmas.Bool.{cases_Bool}
 use Rattle.std.proofs.lemmas.Bool.Decides.{Decides-int_eq}
 use Rattle.std.proofs.lemmas.List.{get_or-drop, length-drop}
@@ -39,7 +38,7 @@ module _ (xs rows : List ℤ) (weights : List (Option ℤ)) (alike : WeighAlike 
   weighs_listed : row_weight xs rows weights ≡ get_or weights r None
   weighs_listed =
       let start : 0 * length xs ≡ 0 = omega arith in
-      ap (λ (n : ℕ). row_weight xs (drop n rows) weights) (sym start) ∙ from_row r 0 refl
+      ap (λ (n : ℕ). row_weight xs (drop n rows) weights) (sym start) ∙ from_row r 0 (omega arith)
 
 -- a list begins with another where each entry is the same
 begins-same : (xs ys : List ℤ) → length xs ≤ length ys → ((k : ℕ) → k < length xs → get_or ys k (pos 0) ≡ get_or xs k (pos 0)) → begins_with xs ys ≡ true
