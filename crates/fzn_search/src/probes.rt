@@ -1,6 +1,7 @@
 // A search from below: at some restarts the first decision is that the objective lies in the best part of what is open. Where that is
 // refuted the search learns a bound, which stands on the certificate as a clause of one literal. Where a row bounds the objective the part is
-// a share of what is open, and nothing is counted; else it is some values next to the best one, for a share of the conflicts.
+// a share of what is open, and nothing is counted; else it is some values next to the best one, for a share of the conflicts. Without a row
+// there are descents besides: behind a solution the first decision is that the next one is better by more than it has to be.
 ghost use Rattle.std.specs.Prelude.{◌≡◌, ◌<◌, length};
 ghost use Rattle.fzn_domain.specs.IntSet.{size};
 
@@ -16,6 +17,22 @@ struct Objective {
     /// Counted from 0.
     number: usize,
     is_maximised: bool,
+}
+
+impl Objective {
+    /// The bound that leaves the best of these values, from the least to the greatest, and so many more.
+    fn bound(self, least: i64, greatest: i64, more: i64) -> Lit {
+        let (op, value) = if self.is_maximised {
+            (Op::AtLeast, greatest.saturating_sub(more))
+        } else {
+            (Op::AtMost, least.saturating_add(more))
+        };
+        Lit {
+            var: VarId(self.number.saturating_add(1)),
+            op,
+            value,
+        }
+    }
 }
 
 /// A bound of the objective that is assumed first, and for how many conflicts more it may be.
@@ -38,6 +55,25 @@ struct Part {
     bound: Option<Lit>,
 }
 
+/// How far below the last solution the next one is looked for, where no row bounds the objective.
+#[derive(Clone, Copy, Debug)]
+struct Descent {
+    /// How many of the values that are open are left out, from the worst one on.
+    step: i64,
+    /// Whether a solution was found behind which none has begun yet.
+    is_due: bool,
+    /// What is assumed first, and for how many conflicts more.
+    probe: Option<Probe>,
+    /// How many conflicts there were in all descents.
+    spent: u64,
+}
+
+/// A descent takes no more conflicts than these.
+const DESCENT: u64 = 32;
+
+/// So many conflicts more than a quarter of all are for descents.
+const SPARE_DESCENTS: u64 = 64;
+
 /// The greatest share that is assumed, in thousandths.
 const WIDEST_PART: u64 = 970;
 
@@ -50,6 +86,7 @@ pub struct Probes {
     /// Whether a probe may begin with the next decision at level 0.
     is_due: bool,
     probe: Option<Probe>,
+    descent: Descent,
     /// Whether the first decision on the trail was a probe's.
     is_assumed: bool,
     /// How many values the next probe leaves, counted from the best one that is not refuted.
@@ -82,6 +119,12 @@ impl Probes {
             },
             is_due: false,
             probe: None,
+            descent: Descent {
+                step: 0,
+                is_due: false,
+                probe: None,
+                spent: 0,
+            },
             is_assumed: false,
             width: 1,
             conflicts: 0,
@@ -103,11 +146,12 @@ impl Probes {
             part.share = part.first;
             part.bound = None;
         }
+        self.descent.found();
     }
 
     /// Whether a bound is being tried.
     pub fn is_trying(&self) -> bool {
-        self.probe.is_some()
+        self.probe.is_some() || self.descent.probe.is_some()
     }
 
     /// Whether the first decision on the trail was a probe's.
@@ -123,6 +167,9 @@ impl Probes {
     /// Counts a conflict, and answers whether a probe has had its share: the search then restarts without one.
     pub fn count_conflict(&mut self) -> bool {
         self.conflicts = self.conflicts.saturating_add(1);
+        if self.descent.count_conflict() {
+            return true;
+        }
         let Some(probe) = &mut self.probe else {
             return false;
         };
@@ -144,7 +191,7 @@ impl Probes {
             return None;
         }
         let bound = self.at_level_0(trail, vars);
-        self.is_assumed = bound.is_some() && self.part.is_none();
+        self.is_assumed = bound.is_some() && self.part.is_none() && self.descent.probe.is_none();
         bound
     }
 
@@ -157,6 +204,11 @@ impl Probes {
             let bound = part.next(objective, domain, self.is_due);
             self.is_due = false;
             return bound;
+        }
+        if let Some(domain) = open_domain(trail, vars, objective.number)
+            && let Some(bound) = self.descent.next(objective, domain, self.conflicts)
+        {
+            return Some(bound);
         }
         let last = self.probe.take();
         if last.is_none() && !self.is_due {
@@ -193,16 +245,7 @@ impl Probes {
         let (least, greatest) = (domain.min(), domain.max());
         let half = greatest.saturating_sub(least) / 2;
         let more = self.width.saturating_sub(1).min(half);
-        let (op, value) = if objective.is_maximised {
-            (Op::AtLeast, greatest.saturating_sub(more))
-        } else {
-            (Op::AtMost, least.saturating_add(more))
-        };
-        Some(Lit {
-            var: VarId(objective.number.saturating_add(1)),
-            op,
-            value,
-        })
+        Some(objective.bound(least, greatest, more))
     }
 }
 
@@ -230,6 +273,64 @@ impl Part {
     }
 }
 
+impl Descent {
+    /// A solution was found. Where a descent has led to it, the next one leaves out twice as many values.
+    fn found(&mut self) {
+        self.step = if self.probe.is_some() {
+            self.step.saturating_mul(2)
+        } else {
+            self.step.max(1)
+        };
+        self.probe = None;
+        self.is_due = true;
+    }
+
+    /// Counts a conflict, and answers whether a descent has had its share: the search then restarts without one.
+    fn count_conflict(&mut self) -> bool {
+        let Some(probe) = &mut self.probe else {
+            return false;
+        };
+        self.spent = self.spent.saturating_add(1);
+        probe.left = probe.left.saturating_sub(1);
+        if probe.left > 0 {
+            return false;
+        }
+        self.probe = None;
+        self.step /= 4;
+        true
+    }
+
+    /// The bound to assume at level 0, if one is to be: that of a descent that goes on, or of the next one, behind a solution.
+    fn next(&mut self, objective: Objective, domain: &Domain, conflicts: u64) -> Option<Lit> {
+        if let Some(probe) = self.probe {
+            if is_open(domain, probe.bound) {
+                return Some(probe.bound);
+            }
+            self.probe = None;
+            self.step /= 4;
+        }
+        if !self.is_due || domain.is_empty() {
+            return None;
+        }
+        self.is_due = false;
+        if (conflicts / 4).saturating_add(SPARE_DESCENTS) < self.spent {
+            return None;
+        }
+        let (least, greatest) = (domain.min(), domain.max());
+        let step = self.step.min(greatest.saturating_sub(least) / 2);
+        if step < 1 {
+            return None;
+        }
+        let more = greatest.saturating_sub(least).saturating_sub(step);
+        let bound = objective.bound(least, greatest, more);
+        self.probe = Some(Probe {
+            bound,
+            left: DESCENT,
+        });
+        Some(bound)
+    }
+}
+
 /// The bound that leaves the objective so many thousandths of what is open, and not all of it.
 fn bound_at(objective: Objective, domain: &Domain, share: u64) -> Lit
     requires { 0 < size domain.now }
@@ -238,16 +339,7 @@ fn bound_at(objective: Objective, domain: &Domain, share: u64) -> Lit
     let span = greatest.saturating_sub(least);
     let more = i64::try_from(span.unsigned_abs().saturating_mul(share) / 1_000).unwrap_or(0);
     let more = more.min(span.saturating_sub(1)).max(0);
-    let (op, value) = if objective.is_maximised {
-        (Op::AtLeast, greatest.saturating_sub(more))
-    } else {
-        (Op::AtMost, least.saturating_add(more))
-    };
-    Lit {
-        var: VarId(objective.number.saturating_add(1)),
-        op,
-        value,
-    }
+    objective.bound(least, greatest, more)
 }
 
 /// Whether a row was derived.
