@@ -9,7 +9,6 @@ use Rattle.fzn_meaning.specs.declared.row.Listed.{Listed}
 use Rattle.fzn_meaning.specs.declared.row.VariablePart.{VariablePart}
 use Rattle.fzn_meaning.specs.declared.row.Part.{Part}
 use Rattle.fzn_meaning.specs.Separable.{weight_at}
-use Rattle.fzn_rules.specs.Least.{Reaches}
 use Rattle.fzn_rules.specs.Separable.{IsLeastOf, IsVariableWeightIn}
 use Rattle.fzn_levels.specs.declared.by_weight.ByWeight.{ByWeight}
 use Rattle.fzn_levels.specs.ByWeight.{IsByWeight, IsOrderOf, AreOrdersOf, HaveLighter}
@@ -93,12 +92,15 @@ module _ (set : IntSet) (part : VariablePart) (listed : Listed) (by_weight : ByW
       (get_or by_weight.places.items at.0 0, there.0, subst (λ (n : ℕ). contains set (listed.low +ℤ pos n) ≡ true) back (subst (λ (x : ℤ). contains set x ≡ true) at.2 member), subst (λ (n : ℕ). Weighs part listed n w) back own)
 
   pub least_first : (i : ℕ) (least : ℤ) → NoneBefore set part listed by_weight.order.items i → contains set (listed.low +ℤ pos (get_or by_weight.order.items i 0)) ≡ true → Weighs part listed (get_or by_weight.order.items i 0) least → IsLeastOf (IsVariableWeightIn set part) (Some least)
-  least_first i least none member weighs = ((listed.low +ℤ pos (get_or by_weight.order.items i 0), member, weighs), λ w weight.
-      let at = placed w weight in
-      elim (cases_lt at.0 i) [
-        | inl earlier ↦ absurd (none at.0 w earlier at.2 at.3)
-        | inr past ↦ is.rising i at.0 least w past at.1 weighs at.3
-      ])
+  least_first i least none member weighs = (
+    (listed.low +ℤ pos (get_or by_weight.order.items i 0), member, weighs),
+    λ w weight.
+        let at = placed w weight in
+        elim (cases_lt at.0 i) [
+          | inl earlier ↦ absurd (none at.0 w earlier at.2 at.3)
+          | inr past ↦ is.rising i at.0 least w past at.1 weighs at.3
+        ],
+  )
 
   pub least_none : NoneBefore set part listed by_weight.order.items (length by_weight.order.items) → IsLeastOf (IsVariableWeightIn set part) None
   least_none none w weight = let at = placed w weight in none at.0 w at.1 at.2 at.3

@@ -254,12 +254,7 @@ impl ByWeight {
 
     /// What the variable of the part weighs at least at the values of the set that are not barred; `None` where there is none. It lies at
     /// most 10^12 * 2^63 + 10^18 from 0.
-    pub(crate) fn least(
-        &self,
-        part: &VariablePart,
-        listed: &Listed,
-        set: &Domain,
-    ) -> Option<i128>
+    pub(crate) fn least(&self, part: &VariablePart, listed: &Listed, set: &Domain) -> Option<i128>
         requires coefficient { IsCoefficient part.now.coefficient }
         requires of { part.now.listed ≡ Some listed.now }
         requires listed { IsWeightList listed.now }

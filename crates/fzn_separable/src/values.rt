@@ -10,7 +10,8 @@ ghost use Rattle.fzn_separable.specs.Passes.{AreFoundOfRow, AreLeastsOf, IsPartA
 
 use fzn_domain::{GREATEST_VALUE, LEAST_VALUE, Memory};
 use fzn_levels::{
-    Falls, Pass, are_enough, entry_weight, explain_levels, levels_of, narrowed, suspects_at, value_at,
+    Falls, Pass, are_enough, entry_weight, explain_levels, levels_of, narrowed, suspects_at,
+    value_at,
 };
 use fzn_list::Items;
 use fzn_meaning::{Listed, Part, VariablePart, weight_at};
@@ -154,9 +155,7 @@ fn find_beyond(
 {
     match weight_at(part, &claim.number) {
         Some(weight) if room < weight => {
-            find_without(
-                pass, leasts, k, part, room, claim, weight, falls, found,
-            )
+            find_without(pass, leasts, k, part, room, claim, weight, falls, found)
         }
         _ => Ok(()),
     }
@@ -327,9 +326,7 @@ fn find_entry(
     match entry_weight(part, listed, i) {
         None => find_barred(pass, k, part, claim, found),
         Some(weight) if room < weight => {
-            find_without(
-                pass, leasts, k, part, room, claim, weight, falls, found,
-            )
+            find_without(pass, leasts, k, part, room, claim, weight, falls, found)
         }
         _ => Ok(()),
     }

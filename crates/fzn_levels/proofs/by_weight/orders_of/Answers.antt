@@ -1,4 +1,4 @@
-use Rattle.std.proofs.Common.{arith, ◌≡◌, ◌<◌, ◌++◌, ◌∷◌, [], ◌∙◌, length, ap, subst, get_or, List, Some}
+use Rattle.std.proofs.Common.{arith, ◌≡◌, ◌<◌, ◌∙◌, length, ap, subst, get_or, List}
 use Rattle.std.proofs.lemmas.List.{length_push}
 use Rattle.fzn_meaning.specs.declared.row.Part.{Part}
 use Rattle.fzn_levels.proofs.ByWeightLemmas.{AreOrdersBefore, orders_more}

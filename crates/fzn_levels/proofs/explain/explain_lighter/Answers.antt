@@ -1,4 +1,4 @@
-use Rattle.std.proofs.Common.{arith, ◌≡◌, ◌≤◌, ◌<◌, ◌+◌, length, get_or, subst, ℕ}
+use Rattle.std.proofs.Common.{arith, ◌≡◌, ◌≤◌, ◌+◌, length, subst, ℕ}
 use Rattle.fzn_terms.specs.Denied.{IsGrown}
 use Rattle.fzn_levels.proofs.LevelLemmas.{AreBefore, entry_said, each_none, each_more, each_skip, entries_between, entries_all}
 use Rattle.fzn_levels.proofs.explain.explain_lighter.Goals as goal

@@ -1,11 +1,9 @@
 use mir.Syntax.{w128}
 use Rattle.std.proofs.lemmas.Int.{to_z-of_z}
-use Rattle.std.proofs.Common.{rules, arith, FitsSigned, ◌++◌, ◌∷◌, [], ◌≡◌, ◌∙◌, sym, ap, subst, ◌+◌, ◌*◌, ◌^◌, ◌≤◌, ◌<◌, length, List, ℤ, unsigned_abs, None, Some, get_or}
-use Rattle.fzn_domain.specs.IntSet.{IntSet}
+use Rattle.std.proofs.Common.{rules, arith, FitsSigned, ◌++◌, ◌∷◌, [], ◌≡◌, ◌∙◌, sym, ap, subst, ◌≤◌, ◌<◌, length, List, ℤ}
 use Rattle.fzn_meaning.specs.declared.row.Part.{Part}
-use Rattle.fzn_rules.specs.Separable.{IsLeastWeight}
-use Rattle.fzn_levels.specs.Levels.{IsWeight, AreLeasts}
-use Rattle.fzn_separable.proofs.TotalLemmas.{leasts-more, leasts-all, part_at}
+use Rattle.fzn_levels.specs.Levels.{AreLeasts}
+use Rattle.fzn_separable.proofs.TotalLemmas.{leasts-more, leasts-all}
 use Rattle.fzn_separable.proofs.search.find_all.Goals as goal
 
 pub loop-k-preserved : goal.loop-k-preserved

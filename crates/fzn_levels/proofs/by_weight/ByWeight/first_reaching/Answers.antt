@@ -11,8 +11,8 @@ loop-low-preserved-then-reaches c =
     record {
       within = omega arith;
       heavy = λ is k w le below weighs.
-      heavy_from c.args.part.now c.args.listed.now c.args.self.now middle (to_z w128 (of_z w128 c.args.level)) is at.0
-      (subst (λ (xs : List ℕ). Weighs c.args.part.now c.args.listed.now (get_or xs middle 0) at.0) c.as_slice-order.ensures.value at.1) at.2 k w le below weighs;
+          heavy_from c.args.part.now c.args.listed.now c.args.self.now middle (to_z w128 (of_z w128 c.args.level)) is at.0
+          (subst (λ (xs : List ℕ). Weighs c.args.part.now c.args.listed.now (get_or xs middle 0) at.0) c.as_slice-order.ensures.value at.1) at.2 k w le below weighs;
     }
 
 pub returns-clause-heavy : goal.returns-clause-heavy

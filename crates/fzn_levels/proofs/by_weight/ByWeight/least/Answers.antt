@@ -1,5 +1,5 @@
 use mir.Syntax.{w128}
-use Rattle.std.proofs.Common.{rules, arith, ◌≡◌, ◌∙◌, List, ℕ, length, true, sym, ap, subst, get_or, ℤ, pos, ◌+ℤ◌, Some, FitsSigned, w64, to_z, of_z}
+use Rattle.std.proofs.Common.{rules, arith, ◌≡◌, ◌∙◌, List, ℕ, length, true, sym, ap, subst, get_or, ℤ, pos, ◌+ℤ◌, Some, FitsSigned, w64}
 use Rattle.std.proofs.lemmas.Int.{to_z-of_z}
 use Rattle.fzn_domain.specs.IntSet.{contains}
 use Rattle.fzn_meaning.specs.Separable.{weight_at}
