@@ -1,5 +1,5 @@
 -- Clauses that say levels below which no part weighs.
-use Rattle.std.proofs.Common.{◌≡◌, ◌≢◌, ℕ, ◌+◌, ◌*◌, ◌<◌, true, false, not, int_le, List, length, get_or, sym, ap, ◌∙◌, subst, inl, inr, arith, ℤ, pos, ◌+ℤ◌, ◌≤ℤ◌, Option, None, Some, IfSome}
+use Rattle.std.proofs.Common.{◌≡◌, ◌≢◌, ℕ, ◌+◌, ◌*◌, ◌<◌, ◌≤◌, true, false, not, int_le, List, length, get_or, sym, ap, ◌∙◌, subst, inl, inr, arith, ℤ, pos, ◌+ℤ◌, ◌≤ℤ◌, Option, None, Some, IfSome}
 use Rattle.std.proofs.lemmas.Int.{ints}
 use Rattle.std.specs.Ordering.{int_eq}
 use Rattle.std.proofs.lemmas.Bool.{false≢true, cases_lt, cases_Bool}
@@ -27,6 +27,7 @@ use Rattle.fzn_propagator.specs.Clause.{IsFalseClause, AreLeftByClause}
 use Rattle.fzn_terms.specs.declared.claim.Claim.{Claim}
 use Rattle.fzn_terms.specs.Denied.{that, IsEntailed, IsClaimExplained, IsGrown}
 use Rattle.fzn_terms.proofs.OrderLemmas.{at_most, equal_of}
+use Rattle.fzn_levels.specs.ByWeight.{HaveLighter}
 use Rattle.fzn_levels.specs.Levels.{IsNoLighter, IsEntryNoLighter, IsRowNoLighter, IsToldOut, SaysNoLighter}
 use Rattle.fzn_levels.proofs.WeightLemmas.{listed_only}
 
@@ -86,6 +87,16 @@ module _ (trail : Levels) (P : ℕ → List IntSet → Type 0) (old : List Lit) 
     ];
   }
 
+  pub each_skip : (i j : ℕ) (clause : List Lit) → IsGrown trail (AreBefore P i) old clause → ((k : ℕ) (sets : List IntSet) → i ≤ k → k < j → P k sets) → IsGrown trail (AreBefore P j) old clause
+  each_skip i j clause before so = record {
+    still = before.still;
+    keeps = before.keeps;
+    says = λ sets left k below. elim (cases_lt k i) [
+      | inl earlier ↦ before.says sets left k earlier
+      | inr past ↦ so k sets past below
+    ];
+  }
+
 -- the values that are listed
 abbrev pub entry_said : VariablePart → Listed → Option ℤ → ℕ → List IntSet → Type 0
 entry_said part listed level k sets = IsEntryNoLighter sets part listed k level
@@ -97,6 +108,15 @@ entries_all trail part listed level old new of all =
     let there = listed_only part listed of at.0 w at.2 in
     each there.0 there.1 w (subst (λ (v : ℤ). contains (set_of sets part.var) v ≡ true) there.2 at.1) (subst (λ (v : ℤ). weight_at part v ≡ Some w) there.2 at.2))
     all
+
+-- where each entry that weighs less than the level is at one of these indices, those between two of them weigh no less
+pub entries_between : (part : VariablePart) (listed : Listed) (level : Option ℤ) (light : List ℕ) (i j : ℕ) → HaveLighter part listed level light → j ≤ length listed.weights → ((k : ℕ) → k < length light → i ≤ get_or light k 0 → get_or light k 0 < length listed.weights → j ≤ get_or light k 0) → (k : ℕ) (sets : List IntSet) → i ≤ k → k < j → entry_said part listed level k sets
+entries_between part listed level light i j have within none k sets start below weight member weighs = elim (have k weight (omega arith) weighs) [
+  | inl (place, inside, is) ↦
+      let at : get_or light place 0 ≡ k = get_or_default light place 0 k inside ∙ is in
+      absurd (let past = none place inside (omega arith) (omega arith) in omega arith)
+  | inr reaches ↦ reaches
+]
 
 -- the rows of a table
 abbrev pub row_said : TablePart → Option ℤ → ℕ → List IntSet → Type 0

@@ -1,4 +1,5 @@
 pub mod CallerLemmas
+mod ByWeightLemmas
 mod LeastLemmas
 mod LevelLemmas
 mod TableLemmas

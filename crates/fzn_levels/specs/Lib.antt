@@ -1,1 +1,2 @@
+pub mod ByWeight
 pub mod Levels

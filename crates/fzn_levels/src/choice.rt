@@ -5,6 +5,8 @@ ghost use Rattle.fzn_list.specs.Limits.{longest};
 ghost use Rattle.fzn_meaning.specs.Separable.{IsVariablePart};
 ghost use Rattle.fzn_levels.specs.Levels.{IsWeight, AreEnough};
 
+use crate::by_weight::ByWeight;
+use crate::listed::order_at;
 use crate::pass::Pass;
 use crate::weights::{entry_weight, sum_of, value_at};
 use fzn_domain::Memory;
@@ -22,20 +24,55 @@ struct Fall {
     part: usize,
 }
 
+/// The parts whose levels may fall, those first whose levels have the least way to fall. They are sorted once for all clauses of a pass.
+#[derive(Drop)]
+pub struct Falls {
+    /// None until a clause needs them.
+    sorted: Option<Vec<Fall>>,
+}
+
+impl Falls {
+    /// Those of one pass, which are not sorted yet.
+    pub fn new() -> Falls {
+        Falls { sorted: None }
+    }
+
+    /// Sorts them where that has not been done. `Err` where memory runs out.
+    fn sort(&mut self, pass: &Pass, leasts: &[i128]) -> Result<(), Memory> {
+        if self.sorted.is_none() {
+            self.sorted = Some(falls_of(pass, leasts)?);
+        }
+        Ok(())
+    }
+}
+
 /// Levels for the parts, one behind the other like their least weights, which may come to less than these by so much together, which is 0 or
-/// more. That of the part at the index `except` stays; an index past all is of none. Whether they do is for the caller to test: no contract
-/// says more than that they are made. `Err` where memory runs out.
+/// more. That of the part at the index `except` stays; an index past all is of none. The falls are those of these least weights. Whether the
+/// levels come to so much is for the caller to test: no contract says more than that they are made. `Err` where memory runs out.
 pub fn levels_of(
     pass: &Pass,
     leasts: &[i128],
+    falls: &mut Falls,
     except: usize,
     slack: i128,
 ) -> Result<Vec<i128>, Memory> {
     let mut levels = Vec::from_slice(pass.alloc, leasts)?;
+    falls.sort(pass, leasts)?;
+    if let Some(falls) = &falls.sorted {
+        lower(pass, &mut levels, falls.as_slice(), except, slack);
+    }
+    Ok(levels)
+}
+
+/// Lets the levels fall in this order, but for the one at an index, until they have come to so much less together.
+fn lower(pass: &Pass, levels: &mut Vec<i128>, falls: &[Fall], except: usize, slack: i128) {
     let mut left = slack;
-    for fall in falls_of(pass, leasts, except)?.iter() {
+    for fall in falls {
         if left <= 0 {
-            break;
+            return;
+        }
+        if fall.part == except {
+            continue;
         }
         if let Some(level) = levels.get_mut(fall.part) {
             let fallen = if fall.depth <= left {
@@ -47,15 +84,13 @@ pub fn levels_of(
             *level = fallen;
         }
     }
-    Ok(levels)
 }
 
-/// The parts of which something has to be said, but for the one at an index: those first whose levels have the least way to fall.
-fn falls_of(pass: &Pass, leasts: &[i128], except: usize) -> Result<Vec<Fall>, Memory> {
+/// The parts of which something has to be said: those first whose levels have the least way to fall.
+fn falls_of(pass: &Pass, leasts: &[i128]) -> Result<Vec<Fall>, Memory> {
     let mut falls = Vec::new(pass.alloc);
     for (part, least) in leasts.iter().enumerate() {
         if let Some(floor) = pass.floors.get(part)
-            && part != except
             && floor < least
         {
             falls.push(Fall {
@@ -77,7 +112,10 @@ fn fallen_level(pass: &Pass, k: usize, level: i128, left: i128) -> i128 {
     match &parts[k] {
         Part::Variable(part) => match &part.listed {
             None => fallen_plain(part.coefficient, level, left),
-            Some(listed) => fallen_listed(pass, part, listed, level, left),
+            Some(listed) => match order_at(pass, k) {
+                None => fallen_listed(pass, part, listed, level, left),
+                Some(order) => fallen_by_weight(pass, part, listed, order, level, left),
+            },
         },
         Part::Table(table) => fallen_table(table, level, left),
     }
@@ -110,6 +148,35 @@ fn fallen_listed(pass: &Pass, part: &VariablePart, listed: &Listed, level: i128,
         }
     }
     fallen
+}
+
+/// The same where the entries are known by weight.
+fn fallen_by_weight(
+    pass: &Pass,
+    part: &VariablePart,
+    listed: &Listed,
+    order: &ByWeight,
+    level: i128,
+    left: i128,
+) -> i128
+    requires part { IsVariablePart (length pass.now.trail.now.declared) part.now }
+    requires of { part.now.listed ≡ Some listed.now }
+{
+    let declared = pass.trail.declared(part.var);
+    for i in order.from(part, listed, level.saturating_sub(left)) {
+        if listed.weights.len() <= *i {
+            return level;
+        }
+        if let Some(weight) = entry_weight(part, listed, *i) {
+            if level <= weight {
+                return level;
+            }
+            if declared.contains(value_at(listed, *i)) {
+                return weight;
+            }
+        }
+    }
+    level
 }
 
 /// That of a table: to the least weight of a row that may be left out with the heavier ones.

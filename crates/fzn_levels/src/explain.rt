@@ -1,18 +1,22 @@
 // Clauses that say what parts weigh at least.
-ghost use Rattle.std.specs.Prelude.{◌≡◌, ◌<◌, ℤ, pos, ◌≤ℤ◌, ◌<ℤ◌, length, OnOk, Some, None};
+ghost use Rattle.std.specs.Prelude.{◌≡◌, ℕ, ◌<◌, ◌≤◌, ℤ, pos, ◌≤ℤ◌, ◌<ℤ◌, length, slice_index, IfSome, OnOk, Some, None};
 ghost use Rattle.std.specs.Int.{int_min, int_max};
 ghost use Rattle.fzn_domain.specs.declared.domain.TheConstants as limits;
 ghost use Rattle.fzn_domain.specs.Limits.{IsInLimits};
 ghost use Rattle.fzn_values.specs.declared.term.Term.TheVariants.{Variable};
 ghost use Rattle.fzn_meaning.specs.declared.row.Part.TheVariants as parts;
-ghost use Rattle.fzn_meaning.specs.Separable.{weight_at, IsCoefficient, IsVariablePart, IsPart};
+ghost use Rattle.fzn_meaning.specs.Separable.{weight_at, IsCoefficient, IsWeightList, IsVariablePart, IsPart};
 ghost use Rattle.fzn_sets.specs.Terms.{least_value, greatest_value};
 ghost use Rattle.fzn_propagator.specs.Clause.{IsFalseClause, Says};
 ghost use Rattle.fzn_terms.specs.Denied.{IsGrown};
 ghost use Rattle.fzn_terms.specs.Intervals.{LiesIn, IsLimitedInterval};
 ghost use Rattle.fzn_levels.specs.Levels.{IsNoLighter, AreNoLighterBut, IsEntryNoLighter, SaysNoLighter, SaysAllNoLighter};
+ghost use Rattle.fzn_levels.specs.ByWeight.{IsByWeight, IsOrderOf, HaveLighter};
 
+use crate::beyond::Beyond;
+use crate::by_weight::ByWeight;
 use crate::explain_table::explain_table;
+use crate::listed::order_at;
 use crate::pass::Pass;
 use crate::told::Told;
 use crate::weights::{entry_weight, value_at};
@@ -40,7 +44,8 @@ pub fn explain_levels(
     let mut told = Told::new(pass.alloc);
     for k in 0..parts.len() {
         if k != except {
-            explain_noted(pass, &parts[k], Some(levels[k]), &mut told, clause)?;
+            let order = order_at(pass, k);
+            explain_noted(pass, &parts[k], Some(levels[k]), order, &mut told, clause)?;
         }
     }
     Ok(())
@@ -60,24 +65,26 @@ pub fn explain_part(
     ensures { OnOk result (SaysNoLighter pass.now.trail.now part.now level clause.old clause.new) }
 {
     let mut told = Told::new(pass.alloc);
-    explain_noted(pass, part, level, &mut told, clause)
+    explain_noted(pass, part, level, None, &mut told, clause)
 }
 
-/// The same beside what is noted of the clause.
+/// The same beside what is noted of the clause. The order is one of the part, if any.
 fn explain_noted(
     pass: &Pass,
     part: &Part,
     level: Option<i128>,
+    order: Option<&ByWeight>,
     told: &mut Told,
     clause: &mut Items<Lit>,
 ) -> Result<(), Memory>
     requires part { IsPart (length pass.now.trail.now.declared) part.now }
     requires present { IsNoLighter pass.now.trail.now.sets part.now level }
+    requires order { IfSome order (λ by_weight. IsOrderOf part.now by_weight.now) }
     requires still { IsFalseClause pass.now.trail.now clause.old }
     ensures { OnOk result (SaysNoLighter pass.now.trail.now part.now level clause.old clause.new) }
 {
     match part {
-        Part::Variable(part) => explain_variable(pass, part, level, clause),
+        Part::Variable(part) => explain_variable(pass, part, level, order, clause),
         Part::Table(table) => explain_table(pass, table, level, told, clause),
     }
 }
@@ -87,15 +94,20 @@ fn explain_variable(
     pass: &Pass,
     part: &VariablePart,
     level: Option<i128>,
+    order: Option<&ByWeight>,
     clause: &mut Items<Lit>,
 ) -> Result<(), Memory>
     requires part { IsVariablePart (length pass.now.trail.now.declared) part.now }
     requires present { IsNoLighter pass.now.trail.now.sets (parts.Variable part.now) level }
+    requires order { IfSome order (λ by_weight. IsOrderOf (parts.Variable part.now) by_weight.now) }
     requires still { IsFalseClause pass.now.trail.now clause.old }
     ensures { OnOk result (SaysNoLighter pass.now.trail.now (parts.Variable part.now) level clause.old clause.new) }
 {
     match (&part.listed, level) {
-        (Some(listed), _) => explain_listed(pass, part, listed, level, clause),
+        (Some(listed), _) => {
+            let light = light_of(part, listed, level, order);
+            explain_listed(pass, part, listed, level, light, clause)
+        }
         (None, Some(level)) => explain_plain(pass, part, level, clause),
         (None, None) => {
             // Not reached: without a list no value is barred, and this is one.
@@ -164,26 +176,101 @@ fn highest(part: &VariablePart, level: i128, greatest: i64) -> i64
     }
 }
 
+/// The indices of the entries that weigh less than the level, where an order of the list and a level tell them.
+fn light_of<'a>(
+    part: &VariablePart,
+    listed: &Listed,
+    level: Option<i128>,
+    order: Option<&'a ByWeight>,
+) -> Option<&'a [usize]>
+    requires coefficient { IsCoefficient part.now.coefficient }
+    requires of { part.now.listed ≡ Some listed.now }
+    requires listed { IsWeightList listed.now }
+    requires order { IfSome order (λ by_weight. IsByWeight part.now listed.now by_weight.now) }
+    ensures { IfSome result (λ light. HaveLighter part.now listed.now level light.now) }
+{
+    match (order, level) {
+        (Some(order), Some(level)) => Some(order.lighter(part, listed, level)),
+        _ => None,
+    }
+}
+
 /// The same of a part with a list: by the ends of its set where that says of several values at once that they are no longer there, else
-/// value by value.
+/// value by value. Each entry that weighs less than the level is at one of the indices, where these are given.
 fn explain_listed(
     pass: &Pass,
     part: &VariablePart,
     listed: &Listed,
     level: Option<i128>,
+    light: Option<&[usize]>,
     clause: &mut Items<Lit>,
 ) -> Result<(), Memory>
     requires part { IsVariablePart (length pass.now.trail.now.declared) part.now }
     requires of { part.now.listed ≡ Some listed.now }
     requires present { IsNoLighter pass.now.trail.now.sets (parts.Variable part.now) level }
+    requires light { IfSome light (λ these. HaveLighter part.now listed.now level these.now) }
     requires still { IsFalseClause pass.now.trail.now clause.old }
     ensures { OnOk result (SaysNoLighter pass.now.trail.now (parts.Variable part.now) level clause.old clause.new) }
 {
     let term = Term::Variable(part.var);
-    let ends = told_ends(pass, part, listed, level);
+    let ends = told_ends(pass, part, listed, level, light);
     explain(pass.trail, Claim::at_least(term, ends.low), clause)?;
     explain(pass.trail, Claim::at_most(term, ends.high), clause)?;
-    explain_entries(pass, part, listed, level, ends, clause)
+    match light {
+        Some(light) if are_few(light, listed) => {
+            explain_lighter(pass, part, listed, level, ends, light, clause)
+        }
+        _ => explain_entries(pass, part, listed, level, ends, clause),
+    }
+}
+
+/// Whether to look for the next of these indices again and again takes less time than to look at each entry.
+fn are_few(light: &[usize], listed: &Listed) -> bool {
+    light.len().saturating_mul(light.len()) <= listed.weights.len().saturating_mul(8)
+}
+
+/// Adds to a false clause what it takes to say of each value that is listed that it weighs no less than the level. It says already that
+/// the values lie within these ends, and each entry that weighs less is at one of the indices.
+fn explain_lighter(
+    pass: &Pass,
+    part: &VariablePart,
+    listed: &Listed,
+    level: Option<i128>,
+    ends: Interval,
+    light: &[usize],
+    clause: &mut Items<Lit>,
+) -> Result<(), Memory>
+    requires part { IsVariablePart (length pass.now.trail.now.declared) part.now }
+    requires of { part.now.listed ≡ Some listed.now }
+    requires present { IsNoLighter pass.now.trail.now.sets (parts.Variable part.now) level }
+    requires ends { Says pass.now.trail.now.declared clause.old (λ sets. LiesIn sets (Variable part.now.var) ends) }
+    requires light { HaveLighter part.now listed.now level light.now }
+    requires still { IsFalseClause pass.now.trail.now clause.old }
+    ensures { OnOk result (SaysNoLighter pass.now.trail.now (parts.Variable part.now) level clause.old clause.new) }
+{
+    let end = listed.weights.len();
+    let mut i = next_of(light, 0, end);
+    while i < end {
+        explain_entry(pass, part, listed, i, level, ends, clause)?;
+        i = next_of(light, i + 1, end);
+    }
+    Ok(())
+}
+
+/// The least of the numbers that lies from a start on and before an end, which is not before it; the end where there is none.
+fn next_of(numbers: &[usize], start: usize, end: usize) -> usize
+    requires { start ≤ end }
+    ensures low { start ≤ result }
+    ensures high { result ≤ end }
+    ensures none { (k : ℕ) → k < length numbers.now → start ≤ slice_index numbers.now k → slice_index numbers.now k < end → result ≤ slice_index numbers.now k }
+{
+    let mut next = end;
+    for number in numbers {
+        if start <= *number && *number < next {
+            next = *number;
+        }
+    }
+    next
 }
 
 /// Adds to a false clause what it takes to say of each value that is listed that it weighs no less than the level. It says already that
@@ -246,8 +333,14 @@ fn explain_entry(
 }
 
 /// Ends within which the values of the part lie. They are told where two values or more that weigh less than the level lie beyond; else
-/// they are those of any value.
-fn told_ends(pass: &Pass, part: &VariablePart, listed: &Listed, level: Option<i128>) -> Interval
+/// they are those of any value. These values are those at the indices, where these are given.
+fn told_ends(
+    pass: &Pass,
+    part: &VariablePart,
+    listed: &Listed,
+    level: Option<i128>,
+    light: Option<&[usize]>,
+) -> Interval
     requires part { IsVariablePart (length pass.now.trail.now.declared) part.now }
     requires of { part.now.listed ≡ Some listed.now }
     ensures low { result.low ≤ℤ least_value pass.now.trail.now.sets (Variable part.now.var) }
@@ -257,27 +350,14 @@ fn told_ends(pass: &Pass, part: &VariablePart, listed: &Listed, level: Option<i1
     let term = Term::Variable(part.var);
     let low = least_of(pass.trail, term);
     let high = greatest_of(pass.trail, term);
-    let declared = pass.trail.declared(part.var);
-    let mut below = 0u32;
-    let mut last_below = LEAST_VALUE;
-    let mut above = 0u32;
-    let mut first_above = GREATEST_VALUE;
-    for i in 0..listed.weights.len() {
-        let value = value_at(listed, i);
-        if is_light(entry_weight(part, listed, i), level) && declared.contains(value) {
-            if value < low {
-                below = below.saturating_add(1);
-                last_below = value;
-            }
-            if high < value {
-                above = above.saturating_add(1);
-                first_above = first_above.min(value);
-            }
-        }
+    let mut beyond = Beyond::new(low, high);
+    match light {
+        Some(light) => beyond.note_each(pass, part, listed, light),
+        None => beyond.note_light(pass, part, listed, level),
     }
     Interval {
-        low: low_end(below, last_below, low),
-        high: high_end(above, first_above, high),
+        low: low_end(beyond.below, beyond.last_below, low),
+        high: high_end(beyond.above, beyond.first_above, high),
     }
 }
 

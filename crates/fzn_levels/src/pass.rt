@@ -3,7 +3,9 @@ ghost use Rattle.std.specs.Prelude.{length};
 ghost use Rattle.fzn_domain.specs.Narrow.{NoneEmpty};
 ghost use Rattle.fzn_meaning.specs.Separable.{IsSeparableRow};
 ghost use Rattle.fzn_levels.specs.Levels.{IsSeparableRow-prop};
+ghost use Rattle.fzn_levels.specs.ByWeight.{AreOrdersOf, AreOrdersOf-prop};
 
+use crate::by_weight::ByWeight;
 use fzn_meaning::Row;
 use fzn_trail::Trail;
 use std::alloc::Global;
@@ -21,6 +23,9 @@ pub struct Pass<'a> {
     pub row: &'a Row,
     /// What each part weighs at least at its declared values, in the order of the parts. It only chooses which levels are spoken of.
     pub floors: &'a [i128],
+    /// The entries of each part's list by weight, in the order of the parts.
+    pub orders: &'a [Option<ByWeight>],
     pub ghost ready: { IsSeparableRow (length trail.now.declared) row.now } by { IsSeparableRow-prop _ _ },
     pub ghost filled: { NoneEmpty trail.now.sets },
+    pub ghost ordered: { AreOrdersOf row.now.parts orders.now } by { AreOrdersOf-prop _ _ },
 }

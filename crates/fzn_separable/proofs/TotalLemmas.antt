@@ -23,8 +23,8 @@ module _ (sets : List IntSet) (parts : List Part) where
     pub each : (k : ℕ) (p : Part) (d : ℤ) → k < count → IsLeastWeight sets (get_or parts k p) (Some (get_or leasts k d))
     pub bounded : All IsWeight leasts
 
-  pub leasts-more : (i : ℕ) (part : Part) (least : ℤ) (leasts new : List ℤ) → i < length parts → part ≡ get_or parts i part → AreFirstLeasts i leasts → IsLeastWeight sets part (Some least) → IsWeight least → new ≡ leasts ++ least ∷ [] → AreFirstLeasts (i + 1) new
-  leasts-more i part least leasts new inside is before here bounded same =
+  pub leasts-more : (i : ℕ) (least : ℤ) (leasts new : List ℤ) → AreFirstLeasts i leasts → ((p : Part) → IsLeastWeight sets (get_or parts i p) (Some least)) → IsWeight least → new ≡ leasts ++ least ∷ [] → AreFirstLeasts (i + 1) new
+  leasts-more i least leasts new before here bounded same =
       let count = before.one_each in
       let longer = ap length same in
       let grown : length (leasts ++ least ∷ []) ≡ length leasts + 1 = simp length-append refl in
@@ -35,8 +35,7 @@ module _ (sets : List IntSet) (parts : List Part) where
           | inr past ↦
               let at : i ≡ k = omega arith in
               subst (λ (n : ℕ). IsLeastWeight sets (get_or parts n p) (Some (get_or (leasts ++ least ∷ []) k d))) at
-              (subst (λ (q : Part). IsLeastWeight sets q (Some (get_or (leasts ++ least ∷ []) k d))) (is ∙ get_or_default parts i part p inside)
-              (subst (λ (x : ℤ). IsLeastWeight sets part (Some x)) (sym (get_or_push leasts least d k (omega arith))) here))
+              (subst (λ (x : ℤ). IsLeastWeight sets (get_or parts i p) (Some x)) (sym (get_or_push leasts least d k (omega arith))) (here p))
         ]);
         bounded = subst (All IsWeight) (sym same) (All-push IsWeight leasts least before.bounded bounded);
       }

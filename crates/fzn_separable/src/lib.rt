@@ -2,9 +2,10 @@
 //!
 //! In: a row of a model, then a trail. Out: that the least weights of its parts exceed the bound, or that a part is barred; or else the values
 //! that are barred and those that weigh more than the other parts leave, and of a part without a list the bound past which its values do; or
-//! none, by the law of the trait `Propagator`. So a pass goes over the weights that are listed, and never over the values of a wide set. Of
-//! the places of a table no value is found: its own propagator does that. A clause says of each other part that it weighs no less than a
-//! level (`fzn_levels`). All is proved against `specs/Passes.antt`, and against `specs/Levels.antt` of `fzn_levels`.
+//! none, by the law of the trait `Propagator`. So a pass goes over the weights that are listed, lightest or heaviest first and no further than
+//! it has to, and never over the values of a wide set. Of the places of a table no value is found: its own propagator does that. A clause
+//! says of each other part that it weighs no less than a level (`fzn_levels`). All is proved against `specs/Passes.antt`, and against
+//! `specs/Levels.antt` of `fzn_levels`.
 #![tactic(auto)]
 
 pub use constraint::propagator_of;
@@ -15,3 +16,4 @@ mod copy;
 mod propagator;
 mod search;
 mod values;
+mod waits;

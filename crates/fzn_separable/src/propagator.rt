@@ -7,12 +7,13 @@ ghost use Rattle.fzn_meaning.specs.Separable.{IsVariablePart, IsPart, IsSeparabl
 ghost use Rattle.fzn_propagator.specs.declared.cost.Cost.TheVariants as cost;
 ghost use Rattle.fzn_propagator.specs.Inference.{AreInferencesOf, AreExhausted};
 ghost use Rattle.fzn_propagator.specs.Subscriptions.{terms_of, AreHeard};
-ghost use Rattle.fzn_separable.specs.Propagator.{row_number, RowIsFor, RowFits, event_of, waits_for};
+ghost use Rattle.fzn_levels.specs.ByWeight.{AreOrdersOf, AreOrdersOf-prop};
 
 use crate::copy::copied_row;
 use crate::search::find_all;
+use crate::waits::event_of;
 use fzn_domain::Memory;
-use fzn_levels::Pass;
+use fzn_levels::{ByWeight, Pass, orders_of};
 use fzn_meaning::{Part, Row, TablePart, Var, VariablePart};
 use fzn_propagator::{Cost, Event, Findings, Propagator, Subscriptions};
 use fzn_rules::least_at_values;
@@ -29,6 +30,9 @@ pub struct RowPropagator {
     pub row: Row,
     /// What each part weighs at least at its declared values.
     pub(crate) floors: Vec<i128>,
+    /// The entries of each part's list by weight, in the order of the parts.
+    pub(crate) orders: Vec<Option<ByWeight>>,
+    ghost ordered: { AreOrdersOf row.parts orders.items } by { AreOrdersOf-prop _ _ },
 }
 
 impl RowPropagator {
@@ -47,11 +51,14 @@ impl RowPropagator {
             number,
             row: copied_row(alloc, row)?,
             floors: floors_of(alloc, vars, row)?,
+            orders: orders_of(alloc, vars, row)?,
         })
     }
 }
 
 impl Propagator for RowPropagator {
+    ghost use Rattle.fzn_separable.specs.Propagator.{row_number, RowIsFor, RowFits, waits_for};
+
     ghost number = { row_number };
 
     ghost is_for = { RowIsFor };
@@ -94,19 +101,9 @@ impl Propagator for RowPropagator {
             trail,
             row: &self.row,
             floors: self.floors.as_slice(),
+            orders: self.orders.as_slice(),
         };
         find_all(&pass, found)
-    }
-}
-
-/// Which change of the part's variable can raise what it weighs at least.
-fn event_of(part: &VariablePart) -> Event
-    ensures { result ≡ event_of part.now }
-{
-    match &part.listed {
-        Some(_) => Event::Any,
-        None if part.coefficient < 0 => Event::High,
-        None => Event::Low,
     }
 }
 

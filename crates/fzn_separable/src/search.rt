@@ -8,10 +8,12 @@ ghost use Rattle.fzn_separable.specs.Passes.{constraint_of, AreFoundOfRow, AreLe
 
 use crate::values::find_values;
 use fzn_domain::Memory;
-use fzn_levels::{Pass, are_enough, explain_levels, explain_part, levels_of, sum_of};
+use fzn_levels::{
+    Falls, Pass, are_enough, explain_levels, explain_part, least_at, levels_of, sum_of,
+};
 use fzn_list::Items;
 use fzn_propagator::Findings;
-use fzn_rules::{Rule, least_weight};
+use fzn_rules::Rule;
 
 /// Finds that the row cannot be met, or else the values that cannot be taken.
 pub(crate) fn find_all(pass: &Pass, found: &mut Findings) -> Result<(), Memory>
@@ -22,7 +24,7 @@ pub(crate) fn find_all(pass: &Pass, found: &mut Findings) -> Result<(), Memory>
     let parts = pass.row.parts.as_slice();
     let mut leasts = Vec::with_capacity(pass.alloc, parts.len())?;
     for k in 0..parts.len() {
-        match least_weight(&parts[k], pass.trail.sets()) {
+        match least_at(pass, k) {
             None => return find_barred(pass, k, found),
             Some(least) => leasts.push(least)?,
         }
@@ -54,8 +56,9 @@ fn find_by_leasts(pass: &Pass, leasts: &[i128], found: &mut Findings) -> Result<
     if (pass.row.bound as i128) < total {
         return find_over(pass, leasts, total, found);
     }
+    let mut falls = Falls::new();
     for k in 0..leasts.len() {
-        find_values(pass, leasts, total, k, found)?;
+        find_values(pass, leasts, total, k, &mut falls, found)?;
     }
     Ok(())
 }
@@ -71,7 +74,8 @@ fn find_over(pass: &Pass, leasts: &[i128], total: i128, found: &mut Findings) ->
     let slack = total
         .saturating_sub(pass.row.bound as i128)
         .saturating_sub(1);
-    let levels = levels_of(pass, leasts, leasts.len(), slack)?;
+    let mut falls = Falls::new();
+    let levels = levels_of(pass, leasts, &mut falls, leasts.len(), slack)?;
     let levels = levels.as_slice();
     if are_enough(pass, leasts, levels, leasts.len()) {
         find_above(pass, levels, found)

@@ -9,7 +9,10 @@ ghost use Rattle.fzn_levels.specs.Levels.{AreNoLighterBut, sum_of};
 ghost use Rattle.fzn_separable.specs.Passes.{AreFoundOfRow, AreLeastsOf, IsPartAt, WeighsWhere};
 
 use fzn_domain::{GREATEST_VALUE, LEAST_VALUE, Memory};
-use fzn_levels::{Pass, are_enough, entry_weight, explain_levels, levels_of, narrowed, value_at};
+use fzn_levels::{
+    Falls, Pass, are_enough, entry_weight, explain_levels, levels_of, narrowed, suspects_at,
+    value_at,
+};
 use fzn_list::Items;
 use fzn_meaning::{Listed, Part, VariablePart, weight_at};
 use fzn_propagator::Findings;
@@ -18,12 +21,13 @@ use fzn_terms::{Claim, force, greatest_of, least_of};
 use fzn_values::Term;
 
 /// Finds the values of the part at an index that are barred, or weigh more than the least weights of the others leave, which are the least
-/// ones without its own. Of a table it finds none.
+/// ones without its own. Of a table it finds none. The falls are those of these least weights.
 pub(crate) fn find_values(
     pass: &Pass,
     leasts: &[i128],
     total: i128,
     k: usize,
+    falls: &mut Falls,
     found: &mut Findings,
 ) -> Result<(), Memory>
     requires leasts { AreLeastsOf pass.now leasts.now }
@@ -38,11 +42,11 @@ pub(crate) fn find_values(
         .saturating_sub(total)
         .saturating_add(leasts[k]);
     match &part.listed {
-        None => find_end(pass, leasts, k, part, room, found),
+        None => find_end(pass, leasts, k, part, room, falls, found),
         Some(listed) => {
             find_before(pass, k, part, listed, found)?;
             find_behind(pass, k, part, listed, found)?;
-            find_listed(pass, leasts, k, part, listed, room, found)
+            find_listed(pass, leasts, k, part, listed, room, falls, found)
         }
     }
 }
@@ -54,6 +58,7 @@ fn find_end(
     k: usize,
     part: &VariablePart,
     room: i128,
+    falls: &mut Falls,
     found: &mut Findings,
 ) -> Result<(), Memory>
     requires leasts { AreLeastsOf pass.now leasts.now }
@@ -65,9 +70,9 @@ fn find_end(
     ensures found { AreFoundOfRow pass.now found.new }
 {
     if part.coefficient < 0 {
-        find_high_end(pass, leasts, k, part, room, found)
+        find_high_end(pass, leasts, k, part, room, falls, found)
     } else {
-        find_low_end(pass, leasts, k, part, room, found)
+        find_low_end(pass, leasts, k, part, room, falls, found)
     }
 }
 
@@ -78,6 +83,7 @@ fn find_high_end(
     k: usize,
     part: &VariablePart,
     room: i128,
+    falls: &mut Falls,
     found: &mut Findings,
 ) -> Result<(), Memory>
     requires leasts { AreLeastsOf pass.now leasts.now }
@@ -95,7 +101,7 @@ fn find_high_end(
         return Ok(());
     }
     let claim = Claim::at_most(term, number);
-    find_beyond(pass, leasts, k, part, room, claim, found)
+    find_beyond(pass, leasts, k, part, room, claim, falls, found)
 }
 
 /// Finds it where lesser values weigh less.
@@ -105,6 +111,7 @@ fn find_low_end(
     k: usize,
     part: &VariablePart,
     room: i128,
+    falls: &mut Falls,
     found: &mut Findings,
 ) -> Result<(), Memory>
     requires leasts { AreLeastsOf pass.now leasts.now }
@@ -122,7 +129,7 @@ fn find_low_end(
         return Ok(());
     }
     let claim = Claim::at_least(term, number);
-    find_beyond(pass, leasts, k, part, room, claim, found)
+    find_beyond(pass, leasts, k, part, room, claim, falls, found)
 }
 
 /// Finds that the claim is not true of the part's value, where it weighs more than the room at the number of the claim.
@@ -133,6 +140,7 @@ fn find_beyond(
     part: &VariablePart,
     room: i128,
     claim: Claim,
+    falls: &mut Falls,
     found: &mut Findings,
 ) -> Result<(), Memory>
     requires leasts { AreLeastsOf pass.now leasts.now }
@@ -147,7 +155,7 @@ fn find_beyond(
 {
     match weight_at(part, &claim.number) {
         Some(weight) if room < weight => {
-            find_without(pass, leasts, k, part, room, claim, weight, found)
+            find_without(pass, leasts, k, part, room, claim, weight, falls, found)
         }
         _ => Ok(()),
     }
@@ -162,6 +170,7 @@ fn find_without(
     room: i128,
     claim: Claim,
     weight: i128,
+    falls: &mut Falls,
     found: &mut Findings,
 ) -> Result<(), Memory>
     requires leasts { AreLeastsOf pass.now leasts.now }
@@ -175,7 +184,7 @@ fn find_without(
     ensures found { AreFoundOfRow pass.now found.new }
 {
     let slack = weight.saturating_sub(room).saturating_sub(1);
-    let mut levels = levels_of(pass, leasts, k, slack)?;
+    let mut levels = levels_of(pass, leasts, falls, k, slack)?;
     if levels.len() != leasts.len() {
         return Ok(());
     }
@@ -265,7 +274,7 @@ fn find_behind(
     find_barred(pass, k, part, claim, found)
 }
 
-/// Finds which of the values that are listed are barred, or weigh more than the room.
+/// Finds which of the values that are listed are barred, or weigh more than the room. It looks at no others where their order is known.
 fn find_listed(
     pass: &Pass,
     leasts: &[i128],
@@ -273,6 +282,7 @@ fn find_listed(
     part: &VariablePart,
     listed: &Listed,
     room: i128,
+    falls: &mut Falls,
     found: &mut Findings,
 ) -> Result<(), Memory>
     requires leasts { AreLeastsOf pass.now leasts.now }
@@ -283,10 +293,9 @@ fn find_listed(
     requires before { AreFoundOfRow pass.now found.old }
     ensures found { AreFoundOfRow pass.now found.new }
 {
-    let set = pass.trail.domain(part.var);
-    for i in 0..listed.weights.len() {
-        if set.contains(value_at(listed, i)) {
-            find_entry(pass, leasts, k, part, listed, i, room, found)?;
+    for i in suspects_at(pass, k, part, listed, room)?.iter() {
+        if *i < listed.weights.len() {
+            find_entry(pass, leasts, k, part, listed, *i, room, falls, found)?;
         }
     }
     Ok(())
@@ -301,6 +310,7 @@ fn find_entry(
     listed: &Listed,
     i: usize,
     room: i128,
+    falls: &mut Falls,
     found: &mut Findings,
 ) -> Result<(), Memory>
     requires leasts { AreLeastsOf pass.now leasts.now }
@@ -316,7 +326,7 @@ fn find_entry(
     match entry_weight(part, listed, i) {
         None => find_barred(pass, k, part, claim, found),
         Some(weight) if room < weight => {
-            find_without(pass, leasts, k, part, room, claim, weight, found)
+            find_without(pass, leasts, k, part, room, claim, weight, falls, found)
         }
         _ => Ok(()),
     }

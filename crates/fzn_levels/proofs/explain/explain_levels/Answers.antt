@@ -2,12 +2,20 @@ use mir.Syntax.{w128}
 use Rattle.std.proofs.Common.{rules, arith, FitsSigned, ◌∙◌, ◌<◌, ◌+◌, sym, ap, subst, List, length, get_or, pos, to_z, of_z}
 use Rattle.std.proofs.lemmas.Int.{to_z-of_z}
 use Rattle.std.proofs.lemmas.List.{get_or_default}
+use Rattle.std.proofs.lemmas.Option.{IfSome_then}
 use Rattle.fzn_domain.specs.declared.literal.Lit.{Lit}
 use Rattle.fzn_meaning.specs.declared.row.Part.{Part}
 use Rattle.fzn_terms.specs.Denied.{IsGrown}
+use Rattle.fzn_levels.specs.ByWeight.{IsOrderOf}
 use Rattle.fzn_levels.proofs.LevelLemmas.{AreNoLighterBefore, said_more, said_same}
 use Rattle.fzn_levels.proofs.explain.explain_levels.Goals as goal
 use Rattle.fzn_levels.proofs.explain.explain_levels.Goals.{then-k-except+in_ok-explain_noted, else-k-except}
+
+pub explain_noted-requires-clause-order : goal.explain_noted-requires-clause-order
+explain_noted-requires-clause-order c =
+    let part = c.index-parts-k.result in
+    let here = c.index-parts-k.is ∙ ap (λ (ps : List Part). get_or ps c.loop-k.k c.index-parts-k.result) c.as_slice-parts.ensures in
+    IfSome_then c.order_at-order.result c.order_at-order.ensures (λ by_weight is. subst (λ (p : Part). IsOrderOf p by_weight.now) (sym here) (is part))
 
 pub loop-k-preserved : goal.loop-k-preserved
 loop-k-preserved c =

@@ -41,3 +41,12 @@ explain_entries-requires-clause-ends c =
       at_least v c.told_ends-ends.result.low (subst (λ (claim : Claim). IsEntailed sets claim) (low (goal.at.explain_entries-requires-clause-ends c).After-at_least) (first.says sets (second.keeps sets left)) v may),
       at_most v c.told_ends-ends.result.high (subst (λ (claim : Claim). IsEntailed sets claim) (high (goal.at.explain_entries-requires-clause-ends c).After-at_most) (second.says sets left) v may),
     )
+
+pub explain_lighter-requires-clause-ends : goal.explain_lighter-requires-clause-ends
+explain_lighter-requires-clause-ends c =
+    let first = c.in_ok-explain.ensures in
+    let second = c.in_ok-explain-2.ensures in
+    λ sets left v may. (
+      at_least v c.told_ends-ends.result.low (subst (λ (claim : Claim). IsEntailed sets claim) (low (goal.at.explain_lighter-requires-clause-ends c).After-at_least) (first.says sets (second.keeps sets left)) v may),
+      at_most v c.told_ends-ends.result.high (subst (λ (claim : Claim). IsEntailed sets claim) (high (goal.at.explain_lighter-requires-clause-ends c).After-at_most) (second.says sets left) v may),
+    )

@@ -1,34 +1,17 @@
 use mir.Syntax.{w128}
 use Rattle.std.proofs.lemmas.Int.{to_z-of_z}
-use Rattle.std.proofs.Common.{rules, arith, FitsSigned, ◌++◌, ◌∷◌, [], ◌≡◌, ◌∙◌, sym, ap, subst, ◌+◌, ◌*◌, ◌^◌, ◌≤◌, ◌<◌, length, List, ℤ, unsigned_abs, None, Some, get_or}
-use Rattle.fzn_domain.specs.IntSet.{IntSet}
+use Rattle.std.proofs.Common.{rules, arith, FitsSigned, ◌++◌, ◌∷◌, [], ◌≡◌, ◌∙◌, sym, ap, subst, ◌≤◌, ◌<◌, length, List, ℤ}
 use Rattle.fzn_meaning.specs.declared.row.Part.{Part}
-use Rattle.fzn_rules.specs.Separable.{IsLeastWeight}
-use Rattle.fzn_levels.specs.Levels.{IsWeight, AreLeasts}
-use Rattle.fzn_separable.proofs.TotalLemmas.{leasts-more, leasts-all, part_at}
+use Rattle.fzn_levels.specs.Levels.{AreLeasts}
+use Rattle.fzn_separable.proofs.TotalLemmas.{leasts-more, leasts-all}
 use Rattle.fzn_separable.proofs.search.find_all.Goals as goal
-
-bounded : (least : ℤ) → unsigned_abs least ≤ 1000000000000 * 2 ^ 63 + 1000000000000000000 → IsWeight least
-bounded least within = omega arith
-
-pub find_barred-requires-clause-barred : goal.find_barred-requires-clause-barred
-find_barred-requires-clause-barred c = λ default.
-    let parts = c.args.pass.now.row.now.parts in
-    let part = c.index-parts-k.result in
-    let items = c.as_slice-parts.ensures in
-    let inside : c.loop-k.k < length c.args.pass.now.row.now.parts = subst (λ (ps : List Part). c.loop-k.k < length ps) c.as_slice-parts.ensures c.loop-k-test.true in
-    subst (λ (p : Part). IsLeastWeight c.args.pass.now.trail.now.sets p None) (sym (part_at parts c.as_slice-parts.result.now c.loop-k.k part inside items c.index-parts-k.is default))
-    (subst (λ (sets : List IntSet). IsLeastWeight sets part None) c.sets.ensures.present c.in-None.ensures.least)
 
 pub loop-k-preserved : goal.loop-k-preserved
 loop-k-preserved c =
-    let part = c.index-parts-k.result in
     let inside : c.loop-k.k < length c.args.pass.now.row.now.parts = subst (λ (ps : List Part). c.loop-k.k < length ps) c.as_slice-parts.ensures c.loop-k-test.true in
     let fits : FitsSigned w128 c.in-Some.least = search rules in
     record {
-      leasts = leasts-more c.args.pass.now.trail.now.sets c.args.pass.now.row.now.parts c.loop-k.k part c.in-Some.least c.loop-k.leasts.items c.push.new.self.items inside
-          (c.index-parts-k.is ∙ ap (λ (ps : List Part). get_or ps c.loop-k.k part) c.as_slice-parts.ensures) c.loop-k.invariant.leasts
-          (subst (λ (sets : List IntSet). IsLeastWeight sets part (Some c.in-Some.least)) c.sets.ensures.present c.in-Some.ensures.least) (bounded c.in-Some.least c.in-Some.ensures.bounded)
+      leasts = leasts-more c.args.pass.now.trail.now.sets c.args.pass.now.row.now.parts c.loop-k.k c.in-Some.least c.loop-k.leasts.items c.push.new.self.items c.loop-k.invariant.leasts c.in-Some.ensures.least c.in-Some.ensures.bounded
           (c.in_ok-push-in-Some.ensures.items ∙ ap (λ (x : ℤ). c.loop-k.leasts.items ++ x ∷ []) (to_z-of_z w128 c.in-Some.least fits));
       within = omega (arith, inside);
       before = c.loop-k.invariant.before;
