@@ -6,6 +6,7 @@ use Rattle.fzn_domain.specs.IntSet.{IntSet}
 use Rattle.fzn_values.specs.declared.term.Place.{Place}
 use Rattle.fzn_builtin_rules.specs.Form.{Form}
 use Rattle.fzn_meaning.specs.declared.constraint.Constraint.{Constraint}
+use Rattle.fzn_meaning.specs.declared.relation.Comparison.TheVariants.{NotEqual}
 use Rattle.fzn_trail.specs.Levels.{Levels}
 use Rattle.fzn_propagator.specs.Inference.{Inference, IsNumberedInference, AreInferencesOf}
 use Rattle.fzn_builtin_rules.specs.declared.ends.Ends.{Ends}
@@ -44,9 +45,11 @@ within_more P places i before here = λ k d after below. elim (cases_eq k i) [
   | inr other ↦ before k d after (omega arith)
 ]
 
-pub both_left : (sets : List IntSet) (found : Form) → (IsSwitchAt sets found.switch true → IsFormLeft sets (form_where true found)) → (IsSwitchAt sets found.switch false → IsFormLeft sets (form_where false found)) → IsLeftAlone sets found
-both_left sets found on off true is = on is
-both_left sets found on off false is = off is
+-- where the switch can be nothing else, it is enough that nothing is left to find there
+pub left_alone : (sets : List IntSet) (found : Form) (on : Bool) → ((other : Bool) → IsSwitchAt sets found.switch other → other ≡ on) → (IsSwitchAt sets found.switch on → IsFormLeft sets (form_where on found)) → IsLeftAlone sets found
+left_alone sets found on one left = λ other is.
+    let same = one other is in
+    subst (λ (b : Bool). IsFormLeft sets (form_where b found)) (sym same) (left (subst (λ (b : Bool). IsSwitchAt sets found.switch b) same is))
 
 -- a side of a pass
 module _ (side : Side) (pass : Pass) (on : Bool) (is : (side.pass ≡ pass) × (side.on ≡ on)) where
@@ -59,3 +62,8 @@ module _ (side : Side) (pass : Pass) (on : Bool) (is : (side.pass ≡ pass) × (
   side_ends ends are =
       let there = subst (λ (b : Bool). AreEnds pass.trail.now.sets (form_where b (form_of_sum pass.form.now)).places ends) (sym is.1) are in
       subst (λ (f : Form). AreEnds side.pass.trail.now.sets f.places ends) (sym side.sum_is) (subst (λ (p : Pass). AreEnds p.trail.now.sets (form_where side.on (form_of_sum p.form.now)).places ends) (sym is.0) there)
+
+  pub side_differs : (form_where on (form_of_sum pass.form.now)).comparison ≡ NotEqual → side.sum.now.comparison ≡ NotEqual
+  side_differs differs =
+      let there = subst (λ (b : Bool). (form_where b (form_of_sum pass.form.now)).comparison ≡ NotEqual) (sym is.1) differs in
+      subst (λ (f : Form). f.comparison ≡ NotEqual) (sym side.sum_is) (subst (λ (p : Pass). (form_where side.on (form_of_sum p.form.now)).comparison ≡ NotEqual) (sym is.0) there)

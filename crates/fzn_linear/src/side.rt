@@ -13,7 +13,7 @@ use fzn_list::Items;
 use fzn_meaning::Comparison;
 use fzn_propagator::Findings;
 use fzn_rules::Rule;
-use fzn_sum::{Inequality, conflict_not_equal, ends_of, floors_of, refute_not_equal, refute_place};
+use fzn_sum::{Inequality, conflict_not_equal, floors_of, refute_not_equal, refute_place};
 use fzn_values::Term;
 
 /// What has to hold in a pass where the switch has one value, which it may have.
@@ -32,33 +32,42 @@ pub(crate) struct Side<'a> {
 }
 
 impl<'a> Side<'a> {
+    ghost use Rattle.fzn_meaning.specs.declared.relation.Comparison.TheVariants.{NotEqual};
     ghost use Rattle.fzn_builtin_rules.specs.Linear.{least_sum};
     ghost use Rattle.fzn_propagator.specs.Inference.{IsTight};
     ghost use Rattle.fzn_sum.specs.Ends.{AreEnds};
     ghost use Rattle.fzn_linear.specs.Passes.{AddsFound, IsInferredGuarded, IsBoundOfSide};
     ghost use Rattle.fzn_linear.specs.Sum.{IsFormLeft};
 
-    /// Finds what follows where this has to hold.
+    /// Finds what follows where this has to hold. The sum has these ends.
     #[tactic(auto, using(crate::proofs::PassLemmas::adds_none, crate::proofs::PassLemmas::adds_both, crate::proofs::RefuteLemmas::part_alone, crate::proofs::RefuteLemmas::part_above, crate::proofs::RefuteLemmas::part_below))]
-    pub(crate) fn hold(&self, found: &mut Findings) -> Result<(), Memory>
-        requires { IsSwitchFixed self.now.pass.trail.now.sets self.now.pass.form.now.switch }
+    pub(crate) fn hold(&self, ends: Ends, found: &mut Findings) -> Result<(), Memory>
+        requires decided { IsSwitchFixed self.now.pass.trail.now.sets self.now.pass.form.now.switch }
+        requires ends { AreEnds self.now.pass.trail.now.sets self.now.sum.now.places ends }
         ensures found { AddsFound self.now.pass found.old found.new }
         ensures none { OnOk result (found.new ≡ [] → IsFormLeft self.now.pass.trail.now.sets (form_of_sum self.now.sum.now)) }
     {
         match self.sum.comparison {
-            Comparison::AtMost => self.keep(&self.above(self.ends()), found),
+            Comparison::AtMost => self.keep(&self.above(ends), found),
             Comparison::Equal => {
-                let above = self.above(self.ends());
+                let above = self.above(ends);
                 self.keep(&above, found)?;
                 self.keep(&above.turned(self.opposite.places.as_slice()), found)
             }
-            Comparison::NotEqual => {
-                let (alloc, trail) = (self.pass.alloc, self.pass.trail);
-                let places = self.sum.places.as_slice();
-                let clause = refute_not_equal(alloc, trail, places, self.sum.bound)?;
-                self.hand_over(clause, found)
-            }
+            Comparison::NotEqual => self.differ(found),
         }
+    }
+
+    /// Finds what follows where the sum has to differ from its bound.
+    pub(crate) fn differ(&self, found: &mut Findings) -> Result<(), Memory>
+        requires decided { IsSwitchFixed self.now.pass.trail.now.sets self.now.pass.form.now.switch }
+        requires differs { self.now.sum.now.comparison ≡ NotEqual }
+        ensures found { AddsFound self.now.pass found.old found.new }
+        ensures none { OnOk result (found.new ≡ [] → IsFormLeft self.now.pass.trail.now.sets (form_of_sum self.now.sum.now)) }
+    {
+        let (alloc, trail) = (self.pass.alloc, self.pass.trail);
+        let clause = refute_not_equal(alloc, trail, self.sum.places.as_slice(), self.sum.bound)?;
+        self.hand_over(clause, found)
     }
 
     /// Finds that the switch has another value, where no sum between these ends compares so.
@@ -82,13 +91,6 @@ impl<'a> Side<'a> {
             }
             Comparison::NotEqual => Ok(()),
         }
-    }
-
-    /// The ends of the sum.
-    fn ends(&self) -> Ends
-        ensures { AreEnds self.now.pass.trail.now.sets self.now.sum.now.places result }
-    {
-        ends_of(self.pass.trail, self.sum.places.as_slice())
     }
 
     /// That the sum, which has these ends, is at most its bound.

@@ -1,5 +1,5 @@
 // The ends of places and sums on a trail.
-ghost use Rattle.std.specs.Prelude.{◌≡◌, ◌*◌, ◌≤◌, List, length, unsigned_abs};
+ghost use Rattle.std.specs.Prelude.{◌≡◌, ◌*◌, ◌≤◌, List, length, unsigned_abs, IsTrue};
 ghost use Rattle.std.specs.List.{All};
 ghost use Rattle.fzn_domain.specs.IntSet.{IntSet};
 ghost use Rattle.fzn_domain.specs.Limits.{IsInLimits};
@@ -7,6 +7,7 @@ ghost use Rattle.fzn_domain.specs.Narrow.{NoneEmpty};
 ghost use Rattle.fzn_values.specs.declared.term.Place.{Place};
 ghost use Rattle.fzn_values.specs.Term.{IsTerm, IsPlace};
 ghost use Rattle.fzn_builtin_rules.specs.Linear.{low_end, low_product, least_sum};
+ghost use Rattle.fzn_propagator.specs.Inference.{IsTight};
 ghost use Rattle.fzn_sum.specs.Ends.{AreEnds};
 ghost use Rattle.fzn_sum.specs.Opposite.{opposites};
 
@@ -81,4 +82,13 @@ pub fn turned(ends: Ends) -> Ends
         greatest: -ends.least,
         widest: ends.widest,
     }
+}
+
+/// Whether a sum of at most 200,000 places that has these ends stays within the bound with any one place at its other end: `false` where the
+/// ends do not say so.
+pub fn is_tight(ends: Ends, bound: i64) -> bool
+    requires { unsigned_abs ends.least ≤ 200000 * 1000000000000000000 }
+    ensures { IsTrue result → (sets : List IntSet) (places : List Place) → AreEnds sets places ends → IsTight sets places bound }
+{
+    ends.least + i128::from(ends.widest) <= i128::from(bound)
 }

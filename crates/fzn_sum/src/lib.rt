@@ -7,7 +7,7 @@
 #![tactic(auto)]
 
 pub use at_most::{floors_of, next_forced, refute_place};
-pub use ends::{ends_of, turned};
+pub use ends::{ends_of, is_tight, turned};
 pub use inequality::{Inequality, conflict_at_most, refute_at_most, refute_equal, slack_within};
 pub use not_equal::{conflict_not_equal, refute_not_equal};
 

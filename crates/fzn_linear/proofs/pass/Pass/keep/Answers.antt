@@ -2,11 +2,14 @@ use Rattle.std.proofs.Common.{sym, subst}
 use Rattle.fzn_linear.specs.declared.pass.Pass.{Pass}
 use Rattle.fzn_linear.specs.Passes.{AddsFound}
 use Rattle.fzn_linear.specs.Switched.{IsSwitchFixed}
-use Rattle.fzn_linear.proofs.PassLemmas.{ok_then, side_left}
-use Rattle.fzn_linear.proofs.pass.Pass.hold.Goals as goal
+use Rattle.fzn_linear.proofs.PassLemmas.{ok_then, side_left, side_ends}
+use Rattle.fzn_linear.proofs.pass.Pass.keep.Goals as goal
 
-pub hold-requires : goal.hold-requires
-hold-requires c = subst (λ (p : Pass). IsSwitchFixed p.trail.now.sets p.form.now.switch) (sym c.in-Some.ensures.some.0) c.requires
+pub hold-requires-clause-decided : goal.hold-requires-clause-decided
+hold-requires-clause-decided c = subst (λ (p : Pass). IsSwitchFixed p.trail.now.sets p.form.now.switch) (sym c.in-Some.ensures.some.0) c.requires.decided
+
+pub hold-requires-clause-ends : goal.hold-requires-clause-ends
+hold-requires-clause-ends c = side_ends c.in-Some.side c.args.self.now c.args.on c.in-Some.ensures.some c.args.ends c.requires.ends
 
 pub returns-in-Some-clause-found : goal.returns-in-Some-clause-found
 returns-in-Some-clause-found c = subst (λ (p : Pass). AddsFound p c.args.found.now c.hold.new.found) c.in-Some.ensures.some.0 c.hold.ensures.found
