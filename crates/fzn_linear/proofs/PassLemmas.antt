@@ -1,19 +1,23 @@
 -- What a pass adds to what was found.
-use Rattle.std.proofs.Common.{◌≡◌, ℕ, ◌+◌, Bool, true, false, List, get_or, refl, sym, subst, inl, inr, arith, Result, Ok, Err, OnOk}
+use Rattle.std.proofs.Common.{◌≡◌, ℕ, ◌+◌, Bool, true, false, List, get_or, refl, sym, subst, inl, inr, arith, ℤ, pos, ◌-ℤ◌, ◌≤ℤ◌, Result, Ok, Err, OnOk}
 use Rattle.std.specs.List.{AllWithin}
 use Rattle.std.proofs.lemmas.Bool.{cases_eq}
 use Rattle.fzn_domain.specs.IntSet.{IntSet}
 use Rattle.fzn_values.specs.declared.term.Place.{Place}
 use Rattle.fzn_builtin_rules.specs.Form.{Form}
 use Rattle.fzn_meaning.specs.declared.constraint.Constraint.{Constraint}
-use Rattle.fzn_meaning.specs.declared.relation.Comparison.TheVariants.{NotEqual}
+use Rattle.fzn_meaning.specs.declared.relation.Comparison.{Comparison}
+use Rattle.fzn_meaning.specs.declared.relation.Comparison.TheVariants.{Equal, NotEqual}
 use Rattle.fzn_trail.specs.Levels.{Levels}
-use Rattle.fzn_propagator.specs.Inference.{Inference, IsNumberedInference, AreInferencesOf}
+use Rattle.fzn_propagator.specs.Inference.{Inference, IsNumberedInference, AreInferencesOf, IsTight}
 use Rattle.fzn_builtin_rules.specs.declared.ends.Ends.{Ends}
+use Rattle.fzn_builtin_rules.specs.Linear.{least_sum}
 use Rattle.fzn_linear.specs.declared.form.SumForm.{SumForm}
 use Rattle.fzn_linear.specs.declared.pass.Pass.{Pass}
 use Rattle.fzn_linear.specs.declared.side.Side.{Side}
 use Rattle.fzn_sum.specs.Ends.{AreEnds}
+use Rattle.fzn_sum.specs.Opposite.{opposites}
+use Rattle.fzn_sum.specs.Refuted.{LeavesEach}
 use Rattle.fzn_linear.specs.Kinds.{form_of_sum, IsFormOf}
 use Rattle.fzn_linear.specs.Passes.{AddsInferences}
 use Rattle.fzn_linear.specs.Sum.{IsFormLeft, IsLeftAlone}
@@ -50,6 +54,12 @@ pub left_alone : (sets : List IntSet) (found : Form) (on : Bool) → ((other : B
 left_alone sets found on one left = λ other is.
     let same = one other is in
     subst (λ (b : Bool). IsFormLeft sets (form_where b found)) (sym same) (left (subst (λ (b : Bool). IsSwitchAt sets found.switch b) same is))
+
+-- neither the sum nor its opposite can exceed a bound
+pub equal_left : (sets : List IntSet) (sum : SumForm) (above below : ℤ) → sum.comparison ≡ Equal → above ≡ sum.bound → below ≡ pos 0 -ℤ sum.bound → IsTight sets sum.places above → IsTight sets (opposites sum.places) below → IsFormLeft sets (form_of_sum sum)
+equal_left sets sum above below is above_is below_is up down =
+    subst (λ (k : Comparison). LeavesEach sets k sum.places sum.bound) (sym is)
+    (subst (λ (b : ℤ). least_sum sets sum.places ≤ℤ b) above_is up.least, subst (λ (b : ℤ). least_sum sets (opposites sum.places) ≤ℤ b) below_is down.least)
 
 -- a side of a pass
 module _ (side : Side) (pass : Pass) (on : Bool) (is : (side.pass ≡ pass) × (side.on ≡ on)) where

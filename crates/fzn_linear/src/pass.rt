@@ -1,5 +1,5 @@
 // One pass over a sum, and by which value of the switch what has to hold.
-ghost use Rattle.std.specs.Prelude.{◌≡◌, ◌*◌, ◌≤◌, List, length, unsigned_abs, IfSome, IfNone, IsTrue, OnOk, MatchBool, Bool};
+ghost use Rattle.std.specs.Prelude.{◌≡◌, ◌≤◌, List, length, unsigned_abs, IfSome, IfNone, IsTrue, OnOk, MatchBool, Bool};
 ghost use Rattle.fzn_domain.specs.IntSet.{IntSet};
 ghost use Rattle.fzn_domain.specs.Narrow.{NoneEmpty};
 ghost use Rattle.fzn_values.specs.declared.term.Place.{Place};
@@ -140,7 +140,7 @@ impl<'a> Pass<'a> {
         match sum.comparison {
             Comparison::AtMost | Comparison::Equal => {
                 let ends = ends_of(self.trail, sum.places.as_slice());
-                if is_left(sum, ends) {
+                if leaves_each(sum, ends) {
                     return Ok(());
                 }
                 self.keep(on, ends, found)
@@ -192,10 +192,9 @@ impl<'a> Pass<'a> {
 
 /// Whether nothing follows where the sum of the form, which has these ends, has to compare so with its bound: `false` where the ends do not
 /// say so.
-fn is_left(sum: &SumForm, ends: Ends) -> bool
+fn leaves_each(sum: &SumForm, ends: Ends) -> bool
     requires bounded { unsigned_abs sum.now.bound ≤ 1000000001 }
-    requires least { unsigned_abs ends.least ≤ 200000 * 1000000000000000000 }
-    requires greatest { unsigned_abs ends.greatest ≤ 200000 * 1000000000000000000 }
+    requires ends { (sets : List IntSet) × AreEnds sets sum.now.places ends }
     ensures { IsTrue result → (sets : List IntSet) → AreEnds sets sum.now.places ends → IsFormLeft sets (form_of_sum sum.now) }
 {
     match sum.comparison {

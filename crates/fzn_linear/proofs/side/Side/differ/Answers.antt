@@ -13,14 +13,13 @@ hand_over-requires c =
     let side = c.args.self.now in
     let fits : FitsSigned w64 c.args.self.now.sum.now.bound = search rules in
     IfSome_then c.in_ok-clause.clause c.in_ok-clause.ensures.found (λ clause refutes.
-    cause_of_refutation side clause c.requires.decided (as_sum (λ k ps b. IsRefutation side.pass.trail.now k ps b clause) side.sum.now _ _ c.requires.differs c.as_slice-places.ensures (to_z-of_z w64 side.sum.now.bound fits) refutes))
+    cause_of_refutation side clause c.requires.decided (as_sum (λ k ps b. IsRefutation side.pass.trail.now k ps b clause) side.sum.now _ _ c.requires.differs c.as_slice.ensures (to_z-of_z w64 side.sum.now.bound fits) refutes))
 
-pub returns-clause-none :
-    goal.returns-clause-none
+pub returns-clause-none : goal.returns-clause-none
 returns-clause-none c =
     let side = c.args.self.now in
     let sets = side.pass.trail.now.sets in
     let fits : FitsSigned w64 c.args.self.now.sum.now.bound = search rules in
     ok_then c.hand_over.result c.hand_over.ensures.none (λ none empty.
-    as_sum (LeavesEach sets) side.sum.now _ _ c.requires.differs c.as_slice-places.ensures (to_z-of_z w64 side.sum.now.bound fits)
-    (subst (λ (f : Option (List Lit)). IfNone f (LeavesEach c.args.self.now.pass.trail.now.sets NotEqual c.as_slice-places.result.now (to_z w64 (of_z w64 c.args.self.now.sum.now.bound)))) (none empty) c.in_ok-clause.ensures.none))
+    as_sum (LeavesEach sets) side.sum.now _ _ c.requires.differs c.as_slice.ensures (to_z-of_z w64 side.sum.now.bound fits)
+    (subst (λ (f : Option (List Lit)). IfNone f (LeavesEach c.args.self.now.pass.trail.now.sets NotEqual c.as_slice.result.now (to_z w64 (of_z w64 c.args.self.now.sum.now.bound)))) (none empty) c.in_ok-clause.ensures.none))
