@@ -1,20 +1,57 @@
 // The ends of places and sums on a trail.
-ghost use Rattle.std.specs.Prelude.{◌≡◌, ◌*◌, ◌≤◌, List, length, unsigned_abs, IsTrue};
+ghost use Rattle.std.specs.Prelude.{◌≡◌, ◌*◌, ◌≤◌, ◌≤ℤ◌, ◌+ℤ◌, ◌-ℤ◌, List, length, unsigned_abs, IsTrue};
 ghost use Rattle.std.specs.List.{All};
 ghost use Rattle.fzn_domain.specs.IntSet.{IntSet};
 ghost use Rattle.fzn_domain.specs.Limits.{IsInLimits};
 ghost use Rattle.fzn_domain.specs.Narrow.{NoneEmpty};
 ghost use Rattle.fzn_values.specs.declared.term.Place.{Place};
 ghost use Rattle.fzn_values.specs.Term.{IsTerm, IsPlace};
+ghost use Rattle.fzn_builtin_rules.specs.Ends.{HasSmallEnds};
 ghost use Rattle.fzn_builtin_rules.specs.Linear.{low_end, low_product, least_sum};
 ghost use Rattle.fzn_propagator.specs.Inference.{IsTight};
 ghost use Rattle.fzn_sum.specs.Ends.{AreEnds};
 ghost use Rattle.fzn_sum.specs.Opposite.{opposites};
 
-use fzn_builtin_rules::{Ends, products_of};
+use fzn_builtin_rules::{Ends, Products, products_of};
 use fzn_terms::{greatest_of, least_of};
 use fzn_trail::Trail;
 use fzn_values::Place;
+
+/// The sum of so few products, each from -10^18 to 10^18, fits 64 bits.
+const FEW: usize = 8;
+
+/// The ends of the sum of few places.
+#[derive(Clone, Copy)]
+struct FewEnds {
+    least: i64,
+    greatest: i64,
+    /// At least the greatest less the least of each place.
+    widest: i64,
+}
+
+impl FewEnds {
+    /// The ends of the sum with one more place, where it has fewer than eight.
+    fn plus(self, given: Products) -> FewEnds
+        requires least { unsigned_abs self.least ≤ 7 * 1000000000000000000 }
+        requires greatest { unsigned_abs self.greatest ≤ 7 * 1000000000000000000 }
+        requires given { HasSmallEnds given }
+        ensures least { result.least ≡ self.least +ℤ given.least }
+        ensures greatest { result.greatest ≡ self.greatest +ℤ given.greatest }
+        ensures wider { self.widest ≤ℤ result.widest }
+        ensures covers { (given.greatest -ℤ given.least) ≤ℤ result.widest }
+    {
+        let spread = given.greatest - given.least;
+        FewEnds {
+            least: self.least + given.least,
+            greatest: self.greatest + given.greatest,
+            widest: if self.widest < spread {
+                spread
+            } else {
+                self.widest
+            },
+        }
+    }
+}
 
 /// The value at which the place gives least.
 pub fn low_end(trail: &Trail, place: Place) -> i64
@@ -63,12 +100,49 @@ pub fn ends_of(trail: &Trail, places: &[Place]) -> Ends
     requires filled { NoneEmpty trail.now.sets }
     ensures { AreEnds trail.now.sets places.now result }
 {
+    if places.len() <= FEW {
+        ends_of_few(trail, places)
+    } else {
+        ends_of_many(trail, places)
+    }
+}
+
+/// Those of a sum of many places.
+fn ends_of_many(trail: &Trail, places: &[Place]) -> Ends
+    requires places { All (IsPlace (length trail.now.declared)) places.now }
+    requires short { length places.now ≤ 200000 }
+    requires filled { NoneEmpty trail.now.sets }
+    ensures { AreEnds trail.now.sets places.now result }
+{
     let sets = trail.sets();
     let mut ends = Ends::of_none();
     for place in places {
         ends = ends.plus(products_of(sets, *place));
     }
     ends
+}
+
+/// Those of a sum of few places. Their products have room in 64 bits, where adding takes fewer instructions.
+fn ends_of_few(trail: &Trail, places: &[Place]) -> Ends
+    requires places { All (IsPlace (length trail.now.declared)) places.now }
+    requires few { length places.now ≤ 8 }
+    requires filled { NoneEmpty trail.now.sets }
+    ensures { AreEnds trail.now.sets places.now result }
+{
+    let sets = trail.sets();
+    let mut ends = FewEnds {
+        least: 0,
+        greatest: 0,
+        widest: 0,
+    };
+    for place in places {
+        ends = ends.plus(products_of(sets, *place));
+    }
+    Ends {
+        least: i128::from(ends.least),
+        greatest: i128::from(ends.greatest),
+        widest: ends.widest,
+    }
 }
 
 /// The ends of the opposite sum, from those of the sum of at most 200,000 places.

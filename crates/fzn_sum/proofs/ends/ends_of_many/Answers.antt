@@ -1,7 +1,7 @@
 use Rattle.fzn_builtin_rules.specs.Linear.{low_product, high_product}
 use Rattle.fzn_builtin_rules.proofs.CallerLemmas.{sum_more, bounded_more}
 use Rattle.fzn_sum.proofs.EndLemmas.{still_above, none_wider-more, spread_by, products_on}
-use Rattle.fzn_sum.proofs.ends.ends_of.Goals as goal
+use Rattle.fzn_sum.proofs.ends.ends_of_many.Goals as goal
 
 pub loop-place-preserved : goal.loop-place-preserved
 loop-place-preserved c =
