@@ -1,7 +1,8 @@
 -- What a pass adds to what was found.
-use Rattle.std.proofs.Common.{◌≡◌, ℕ, ◌+◌, Bool, true, false, List, get_or, refl, sym, subst, inl, inr, arith, ℤ, pos, ◌-ℤ◌, ◌≤ℤ◌, Result, Ok, Err, OnOk}
+use Rattle.std.proofs.Common.{◌≡◌, ◌≢◌, ℕ, ◌+◌, Bool, true, false, List, get_or, refl, sym, ap, subst, ◌∙◌, inl, inr, arith, ℤ, pos, ◌-ℤ◌, ◌≤ℤ◌, Result, Ok, Err, OnOk}
 use Rattle.std.specs.List.{AllWithin}
 use Rattle.std.proofs.lemmas.Bool.{cases_eq}
+use Rattle.fzn_domain.specs.declared.literal.Lit.{Lit}
 use Rattle.fzn_domain.specs.IntSet.{IntSet}
 use Rattle.fzn_values.specs.declared.term.Place.{Place}
 use Rattle.fzn_builtin_rules.specs.Form.{Form}
@@ -19,7 +20,7 @@ use Rattle.fzn_sum.specs.Ends.{AreEnds}
 use Rattle.fzn_sum.specs.Opposite.{opposites}
 use Rattle.fzn_sum.specs.Refuted.{LeavesEach}
 use Rattle.fzn_linear.specs.Kinds.{form_of_sum, IsFormOf}
-use Rattle.fzn_linear.specs.Passes.{AddsInferences}
+use Rattle.fzn_linear.specs.Passes.{AddsInferences, IsFormRefuted}
 use Rattle.fzn_linear.specs.Sum.{IsFormLeft, IsLeftAlone}
 use Rattle.fzn_linear.specs.Switched.{form_where, IsSwitchAt}
 
@@ -73,7 +74,15 @@ module _ (side : Side) (pass : Pass) (on : Bool) (is : (side.pass ≡ pass) × (
       let there = subst (λ (b : Bool). AreEnds pass.trail.now.sets (form_where b (form_of_sum pass.form.now)).places ends) (sym is.1) are in
       subst (λ (f : Form). AreEnds side.pass.trail.now.sets f.places ends) (sym side.sum_is) (subst (λ (p : Pass). AreEnds p.trail.now.sets (form_where side.on (form_of_sum p.form.now)).places ends) (sym is.0) there)
 
-  pub side_differs : (form_where on (form_of_sum pass.form.now)).comparison ≡ NotEqual → side.sum.now.comparison ≡ NotEqual
-  side_differs differs =
-      let there = subst (λ (b : Bool). (form_where b (form_of_sum pass.form.now)).comparison ≡ NotEqual) (sym is.1) differs in
-      subst (λ (f : Form). f.comparison ≡ NotEqual) (sym side.sum_is) (subst (λ (p : Pass). (form_where side.on (form_of_sum p.form.now)).comparison ≡ NotEqual) (sym is.0) there)
+  side_form : form_of_sum side.sum.now ≡ form_where on (form_of_sum pass.form.now)
+  side_form =
+      subst (λ (b : Bool). form_of_sum side.sum.now ≡ form_where b (form_of_sum pass.form.now)) is.1
+      (subst (λ (p : Pass). form_of_sum side.sum.now ≡ form_where side.on (form_of_sum p.form.now)) is.0 side.sum_is)
+
+  pub side_compares : (form_where on (form_of_sum pass.form.now)).comparison ≢ NotEqual → side.sum.now.comparison ≢ NotEqual
+  side_compares other = λ same. other (sym (ap (λ (f : Form). f.comparison) side_form) ∙ same)
+
+  pub side_refuted : (clause : List Lit) → IsFormRefuted pass.trail.now (form_where on (form_of_sum pass.form.now)) clause → IsFormRefuted side.pass.trail.now (form_of_sum side.sum.now) clause
+  side_refuted clause refutes =
+      subst (λ (p : Pass). IsFormRefuted p.trail.now (form_of_sum side.sum.now) clause) (sym is.0)
+      (subst (λ (f : Form). IsFormRefuted pass.trail.now f clause) (sym side_form) refutes)

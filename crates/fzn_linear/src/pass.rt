@@ -1,5 +1,5 @@
 // One pass over a sum, and by which value of the switch what has to hold.
-ghost use Rattle.std.specs.Prelude.{◌≡◌, ◌≤◌, List, length, unsigned_abs, IfSome, IfNone, IsTrue, OnOk, MatchBool, Bool};
+ghost use Rattle.std.specs.Prelude.{◌≡◌, ◌≢◌, ◌≤◌, List, length, unsigned_abs, IfSome, IfNone, IsTrue, OnOk, MatchBool, Bool};
 ghost use Rattle.fzn_domain.specs.IntSet.{IntSet};
 ghost use Rattle.fzn_domain.specs.Narrow.{NoneEmpty};
 ghost use Rattle.fzn_values.specs.declared.term.Place.{Place};
@@ -12,10 +12,11 @@ ghost use Rattle.fzn_linear.specs.Switched.{form_where, IsSwitchAt, MayBeSwitchA
 use crate::form::SumForm;
 use crate::side::Side;
 use fzn_builtin_rules::Ends;
-use fzn_domain::Memory;
+use fzn_domain::{Lit, Memory};
+use fzn_list::Items;
 use fzn_meaning::Comparison;
 use fzn_propagator::Findings;
-use fzn_sum::{ends_of, is_tight, turned};
+use fzn_sum::{ends_of, is_tight, refute_not_equal, turned};
 use fzn_terms::{greatest_of, least_of};
 use fzn_trail::Trail;
 use std::alloc::Global;
@@ -38,7 +39,7 @@ pub(crate) struct Pass<'a> {
 impl<'a> Pass<'a> {
     ghost use Rattle.std.specs.Prelude.{[]};
     ghost use Rattle.fzn_builtin_rules.specs.Linear.{least_sum};
-    ghost use Rattle.fzn_linear.specs.Passes.{AddsFound};
+    ghost use Rattle.fzn_linear.specs.Passes.{AddsFound, IsFormRefuted};
     ghost use Rattle.fzn_linear.specs.Sum.{IsLeftAlone};
 
     /// Finds what has to hold where the switch has one value, or there is none; else that it has not the value for which the ends of the sum
@@ -153,6 +154,7 @@ impl<'a> Pass<'a> {
     #[tactic(auto, using(crate::proofs::PassLemmas::adds_none, crate::proofs::PassLemmas::adds_both))]
     fn keep(&self, on: bool, ends: Ends, found: &mut Findings) -> Result<(), Memory>
         requires decided { IsSwitchFixed self.now.trail.now.sets self.now.form.now.switch }
+        requires compares { (form_where on (form_of_sum self.now.form.now)).comparison ≢ NotEqual }
         requires ends { AreEnds self.now.trail.now.sets (form_where on (form_of_sum self.now.form.now)).places ends }
         ensures found { AddsFound self.now found.old found.new }
         ensures none { OnOk result (found.new ≡ [] → IsSwitchAt self.now.trail.now.sets self.now.form.now.switch on → IsFormLeft self.now.trail.now.sets (form_where on (form_of_sum self.now.form.now))) }
@@ -164,15 +166,30 @@ impl<'a> Pass<'a> {
     }
 
     /// The same, where the sum has to differ from its bound.
-    #[tactic(auto, using(crate::proofs::PassLemmas::adds_none, crate::proofs::PassLemmas::adds_both))]
+    #[tactic(auto, using(crate::proofs::PassLemmas::adds_none))]
     fn differ(&self, on: bool, found: &mut Findings) -> Result<(), Memory>
         requires decided { IsSwitchFixed self.now.trail.now.sets self.now.form.now.switch }
         requires differs { (form_where on (form_of_sum self.now.form.now)).comparison ≡ NotEqual }
         ensures found { AddsFound self.now found.old found.new }
         ensures none { OnOk result (found.new ≡ [] → IsSwitchAt self.now.trail.now.sets self.now.form.now.switch on → IsFormLeft self.now.trail.now.sets (form_where on (form_of_sum self.now.form.now))) }
     {
+        let sum = self.sum_where(on);
+        match refute_not_equal(self.alloc, self.trail, sum.places.as_slice(), sum.bound)? {
+            Some(clause) => self.hand_over(on, clause, found),
+            None => Ok(()),
+        }
+    }
+
+    /// Hands over a clause that refutes what has to hold where the switch has this value, if it has.
+    #[tactic(auto, using(crate::proofs::PassLemmas::adds_none))]
+    fn hand_over(&self, on: bool, clause: Items<Lit>, found: &mut Findings) -> Result<(), Memory>
+        requires decided { IsSwitchFixed self.now.trail.now.sets self.now.form.now.switch }
+        requires refutes { IsFormRefuted self.now.trail.now (form_where on (form_of_sum self.now.form.now)) clause }
+        ensures found { AddsFound self.now found.old found.new }
+        ensures none { OnOk result (found.new ≡ [] → IsSwitchAt self.now.trail.now.sets self.now.form.now.switch on → ⊥) }
+    {
         match self.side(on) {
-            Some(side) => side.differ(found),
+            Some(side) => side.hand_over(Some(clause), found),
             None => Ok(()),
         }
     }

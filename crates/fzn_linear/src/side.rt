@@ -1,5 +1,5 @@
 // What has to hold where the switch of a sum has one value.
-ghost use Rattle.std.specs.Prelude.{◌≡◌, ◌++◌, ◌≤ℤ◌, [], length, None, IfOk, IfSome, OnOk};
+ghost use Rattle.std.specs.Prelude.{◌≡◌, ◌≢◌, ◌++◌, ◌≤ℤ◌, [], length, None, IfOk, IfSome, OnOk};
 ghost use Rattle.std.proofs.Props.{props};
 ghost use Rattle.fzn_linear.specs.Kinds.{form_of_sum};
 ghost use Rattle.fzn_linear.specs.Sum.{IsSumWithOpposite, IsSum-prop};
@@ -13,7 +13,7 @@ use fzn_list::Items;
 use fzn_meaning::Comparison;
 use fzn_propagator::Findings;
 use fzn_rules::Rule;
-use fzn_sum::{Inequality, conflict_not_equal, floors_of, refute_not_equal, refute_place};
+use fzn_sum::{Inequality, conflict_not_equal, floors_of, refute_place};
 use fzn_values::Term;
 
 /// What has to hold in a pass where the switch has one value, which it may have.
@@ -39,10 +39,11 @@ impl<'a> Side<'a> {
     ghost use Rattle.fzn_linear.specs.Passes.{AddsFound, IsInferredGuarded, IsBoundOfSide};
     ghost use Rattle.fzn_linear.specs.Sum.{IsFormLeft};
 
-    /// Finds what follows where this has to hold. The sum has these ends.
+    /// Finds what follows where this has to hold, and the sum, which has these ends, does not only have to differ from its bound.
     #[tactic(auto, using(crate::proofs::PassLemmas::adds_none, crate::proofs::PassLemmas::adds_both, crate::proofs::RefuteLemmas::part_alone, crate::proofs::RefuteLemmas::part_above, crate::proofs::RefuteLemmas::part_below))]
     pub(crate) fn hold(&self, ends: Ends, found: &mut Findings) -> Result<(), Memory>
         requires decided { IsSwitchFixed self.now.pass.trail.now.sets self.now.pass.form.now.switch }
+        requires compares { self.now.sum.now.comparison ≢ NotEqual }
         requires ends { AreEnds self.now.pass.trail.now.sets self.now.sum.now.places ends }
         ensures found { AddsFound self.now.pass found.old found.new }
         ensures none { OnOk result (found.new ≡ [] → IsFormLeft self.now.pass.trail.now.sets (form_of_sum self.now.sum.now)) }
@@ -54,20 +55,8 @@ impl<'a> Side<'a> {
                 self.keep(&above, found)?;
                 self.keep(&above.turned(self.opposite.places.as_slice()), found)
             }
-            Comparison::NotEqual => self.differ(found),
+            Comparison::NotEqual => Ok(()), // The pass asks such a sum before it makes a side.
         }
-    }
-
-    /// Finds what follows where the sum has to differ from its bound.
-    pub(crate) fn differ(&self, found: &mut Findings) -> Result<(), Memory>
-        requires decided { IsSwitchFixed self.now.pass.trail.now.sets self.now.pass.form.now.switch }
-        requires differs { self.now.sum.now.comparison ≡ NotEqual }
-        ensures found { AddsFound self.now.pass found.old found.new }
-        ensures none { OnOk result (found.new ≡ [] → IsFormLeft self.now.pass.trail.now.sets (form_of_sum self.now.sum.now)) }
-    {
-        let (alloc, trail) = (self.pass.alloc, self.pass.trail);
-        let clause = refute_not_equal(alloc, trail, self.sum.places.as_slice(), self.sum.bound)?;
-        self.hand_over(clause, found)
     }
 
     /// Finds that the switch has another value, where no sum between these ends compares so.
@@ -151,7 +140,11 @@ impl<'a> Side<'a> {
     }
 
     /// Hands over the clause, where there is one, with the literal behind it that the switch has another value.
-    fn hand_over(&self, clause: Option<Items<Lit>>, found: &mut Findings) -> Result<(), Memory>
+    pub(crate) fn hand_over(
+        &self,
+        clause: Option<Items<Lit>>,
+        found: &mut Findings,
+    ) -> Result<(), Memory>
         requires { IfSome clause (IsInferredGuarded self.now) }
         ensures found { AddsFound self.now.pass found.old found.new }
         ensures none { OnOk result (found.new ≡ [] → clause ≡ None) }
