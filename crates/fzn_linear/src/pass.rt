@@ -129,8 +129,8 @@ impl<'a> Pass<'a> {
         if on { self.form } else { self.opposite }
     }
 
-    /// Finds what follows from what has to hold where the switch has this value, if it has. Mostly that is nothing, and mostly the ends of
-    /// the sum say so.
+    /// Finds what follows from what has to hold where the switch has this value, if it has. Mostly nothing does, and mostly the ends of the
+    /// sum say so.
     #[tactic(auto, using(crate::proofs::PassLemmas::adds_none))]
     fn hold(&self, on: bool, found: &mut Findings) -> Result<(), Memory>
         requires { IsSwitchFixed self.now.trail.now.sets self.now.form.now.switch }
@@ -150,7 +150,7 @@ impl<'a> Pass<'a> {
         }
     }
 
-    /// The same, where the sum has these ends.
+    /// The same, where the sum, which has these ends, has to be at most its bound or to be it.
     #[tactic(auto, using(crate::proofs::PassLemmas::adds_none, crate::proofs::PassLemmas::adds_both))]
     fn keep(&self, on: bool, ends: Ends, found: &mut Findings) -> Result<(), Memory>
         requires decided { IsSwitchFixed self.now.trail.now.sets self.now.form.now.switch }

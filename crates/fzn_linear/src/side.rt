@@ -39,7 +39,7 @@ impl<'a> Side<'a> {
     ghost use Rattle.fzn_linear.specs.Passes.{AddsFound, IsInferredGuarded, IsBoundOfSide};
     ghost use Rattle.fzn_linear.specs.Sum.{IsFormLeft};
 
-    /// Finds what follows where this has to hold, and the sum, which has these ends, does not only have to differ from its bound.
+    /// Finds what follows where the sum, which has these ends, has to be at most its bound or to be it.
     #[tactic(auto, using(crate::proofs::PassLemmas::adds_none, crate::proofs::PassLemmas::adds_both, crate::proofs::RefuteLemmas::part_alone, crate::proofs::RefuteLemmas::part_above, crate::proofs::RefuteLemmas::part_below))]
     pub(crate) fn hold(&self, ends: Ends, found: &mut Findings) -> Result<(), Memory>
         requires decided { IsSwitchFixed self.now.pass.trail.now.sets self.now.pass.form.now.switch }
@@ -55,7 +55,7 @@ impl<'a> Side<'a> {
                 self.keep(&above, found)?;
                 self.keep(&above.turned(self.opposite.places.as_slice()), found)
             }
-            Comparison::NotEqual => Ok(()), // The pass asks such a sum before it makes a side.
+            Comparison::NotEqual => Ok(()), // A pass asks such a sum without a side.
         }
     }
 
