@@ -6,7 +6,8 @@ ghost use Rattle.fzn_domain.specs.Limits.{IsInLimits};
 ghost use Rattle.fzn_domain.specs.Narrow.{NoneEmpty};
 ghost use Rattle.fzn_values.specs.declared.term.Place.{Place};
 ghost use Rattle.fzn_values.specs.Term.{IsTerm, IsPlace};
-ghost use Rattle.fzn_builtin_rules.specs.Ends.{HasSmallEnds};
+ghost use Rattle.fzn_sets.specs.Terms.{least_value, greatest_value};
+ghost use Rattle.fzn_builtin_rules.specs.Ends.{HasSmallEnds, AreProducts};
 ghost use Rattle.fzn_builtin_rules.specs.Linear.{low_end, low_product, least_sum};
 ghost use Rattle.fzn_propagator.specs.Inference.{IsTight};
 ghost use Rattle.fzn_sum.specs.Ends.{AreEnds};
@@ -15,7 +16,7 @@ ghost use Rattle.fzn_sum.specs.Opposite.{opposites};
 use fzn_builtin_rules::{Ends, Products, products_of};
 use fzn_terms::{greatest_of, least_of};
 use fzn_trail::Trail;
-use fzn_values::Place;
+use fzn_values::{Place, Term};
 
 /// The sum of so few products, each from -10^18 to 10^18, fits 64 bits.
 const FEW: usize = 8;
@@ -49,6 +50,45 @@ impl FewEnds {
             } else {
                 self.widest
             },
+        }
+    }
+}
+
+/// The least and the greatest value of the term.
+fn values_of(trail: &Trail, term: Term) -> (i64, i64)
+    requires term { IsTerm (length trail.now.declared) term }
+    requires filled { NoneEmpty trail.now.sets }
+    ensures least { result.0 ≡ least_value trail.now.sets term }
+    ensures greatest { result.1 ≡ greatest_value trail.now.sets term }
+    ensures in_limits { IsInLimits result.0 × IsInLimits result.1 }
+{
+    match term {
+        Term::Constant(value) => (value, value),
+        Term::Variable(var) => {
+            let domain = trail.domain(var);
+            (domain.min(), domain.max())
+        }
+    }
+}
+
+/// What the place gives at least and at most. `products_of` says the same, but looks its variable up twice.
+fn given_by(trail: &Trail, place: Place) -> Products
+    requires place { IsPlace (length trail.now.declared) place }
+    requires filled { NoneEmpty trail.now.sets }
+    ensures { AreProducts trail.now.sets place result }
+{
+    let (low, high) = values_of(trail, place.term);
+    let one = place.coefficient * low;
+    let other = place.coefficient * high;
+    if place.coefficient < 0 {
+        Products {
+            least: other,
+            greatest: one,
+        }
+    } else {
+        Products {
+            least: one,
+            greatest: other,
         }
     }
 }
@@ -129,14 +169,13 @@ fn ends_of_few(trail: &Trail, places: &[Place]) -> Ends
     requires filled { NoneEmpty trail.now.sets }
     ensures { AreEnds trail.now.sets places.now result }
 {
-    let sets = trail.sets();
     let mut ends = FewEnds {
         least: 0,
         greatest: 0,
         widest: 0,
     };
     for place in places {
-        ends = ends.plus(products_of(sets, *place));
+        ends = ends.plus(given_by(trail, *place));
     }
     Ends {
         least: i128::from(ends.least),
