@@ -2,6 +2,7 @@
 use Rattle.std.specs.Prelude.{◌≡◌, ◌++◌, [], ℕ, List}
 use Rattle.fzn_domain.specs.declared.literal.Lit.{Lit}
 use Rattle.fzn_meaning.specs.declared.constraint.Constraint.{Constraint}
+use Rattle.fzn_builtin_rules.specs.Form.{Form}
 use Rattle.fzn_trail.specs.Levels.{Levels}
 use Rattle.fzn_propagator.specs.Inference.{Inference, AreFoundOf}
 use Rattle.fzn_linear.specs.declared.form.SumForm.{SumForm}
@@ -10,7 +11,7 @@ use Rattle.fzn_linear.specs.declared.pass.Pass.{Pass}
 use Rattle.fzn_linear.specs.declared.side.Side.{Side}
 use Rattle.fzn_sum.specs.Explained.{Exceeds}
 use Rattle.fzn_linear.specs.Kinds.{form_of_sum, IsFormOf}
-use Rattle.fzn_sum.specs.Refuted.{RulesOut}
+use Rattle.fzn_sum.specs.Refuted.{RulesOut, IsRefutation}
 use Rattle.fzn_linear.specs.Sum.{IsFound}
 use Rattle.fzn_linear.specs.Switched.{guard_of}
 
@@ -21,6 +22,10 @@ pub record AddsInferences (number : ℕ) (sum : SumForm) (trail : Levels) (befor
 
 abbrev pub AddsFound : Pass → List Inference → List Inference → Type 0
 AddsFound pass before after = AddsInferences pass.number pass.form.now pass.trail.now before after
+
+-- a clause that is false or forces one literal, and rules out what the form says of its sum
+abbrev pub IsFormRefuted : Levels → Form → List Lit → Type 0
+IsFormRefuted trail found clause = IsRefutation trail found.comparison found.places found.bound clause
 
 -- with the literal that the switch has another value behind it, the clause is an inference
 abbrev pub IsInferredGuarded : Side → List Lit → Type 0

@@ -1,5 +1,5 @@
 // What has to hold where the switch of a sum has one value.
-ghost use Rattle.std.specs.Prelude.{◌≡◌, ◌++◌, ◌≤ℤ◌, [], length, None, IfOk, IfSome, OnOk};
+ghost use Rattle.std.specs.Prelude.{◌≡◌, ◌≢◌, ◌++◌, ◌≤ℤ◌, [], length, None, IfOk, IfSome, OnOk};
 ghost use Rattle.std.proofs.Props.{props};
 ghost use Rattle.fzn_linear.specs.Kinds.{form_of_sum};
 ghost use Rattle.fzn_linear.specs.Sum.{IsSumWithOpposite, IsSum-prop};
@@ -13,7 +13,7 @@ use fzn_list::Items;
 use fzn_meaning::Comparison;
 use fzn_propagator::Findings;
 use fzn_rules::Rule;
-use fzn_sum::{Inequality, conflict_not_equal, ends_of, floors_of, refute_not_equal, refute_place};
+use fzn_sum::{Inequality, conflict_not_equal, floors_of, refute_place};
 use fzn_values::Term;
 
 /// What has to hold in a pass where the switch has one value, which it may have.
@@ -32,32 +32,30 @@ pub(crate) struct Side<'a> {
 }
 
 impl<'a> Side<'a> {
+    ghost use Rattle.fzn_meaning.specs.declared.relation.Comparison.TheVariants.{NotEqual};
     ghost use Rattle.fzn_builtin_rules.specs.Linear.{least_sum};
     ghost use Rattle.fzn_propagator.specs.Inference.{IsTight};
     ghost use Rattle.fzn_sum.specs.Ends.{AreEnds};
     ghost use Rattle.fzn_linear.specs.Passes.{AddsFound, IsInferredGuarded, IsBoundOfSide};
     ghost use Rattle.fzn_linear.specs.Sum.{IsFormLeft};
 
-    /// Finds what follows where this has to hold.
+    /// Finds what follows where the sum, which has these ends, has to be at most its bound or to be it.
     #[tactic(auto, using(crate::proofs::PassLemmas::adds_none, crate::proofs::PassLemmas::adds_both, crate::proofs::RefuteLemmas::part_alone, crate::proofs::RefuteLemmas::part_above, crate::proofs::RefuteLemmas::part_below))]
-    pub(crate) fn hold(&self, found: &mut Findings) -> Result<(), Memory>
-        requires { IsSwitchFixed self.now.pass.trail.now.sets self.now.pass.form.now.switch }
+    pub(crate) fn hold(&self, ends: Ends, found: &mut Findings) -> Result<(), Memory>
+        requires decided { IsSwitchFixed self.now.pass.trail.now.sets self.now.pass.form.now.switch }
+        requires compares { self.now.sum.now.comparison ≢ NotEqual }
+        requires ends { AreEnds self.now.pass.trail.now.sets self.now.sum.now.places ends }
         ensures found { AddsFound self.now.pass found.old found.new }
         ensures none { OnOk result (found.new ≡ [] → IsFormLeft self.now.pass.trail.now.sets (form_of_sum self.now.sum.now)) }
     {
         match self.sum.comparison {
-            Comparison::AtMost => self.keep(&self.above(self.ends()), found),
+            Comparison::AtMost => self.keep(&self.above(ends), found),
             Comparison::Equal => {
-                let above = self.above(self.ends());
+                let above = self.above(ends);
                 self.keep(&above, found)?;
                 self.keep(&above.turned(self.opposite.places.as_slice()), found)
             }
-            Comparison::NotEqual => {
-                let (alloc, trail) = (self.pass.alloc, self.pass.trail);
-                let places = self.sum.places.as_slice();
-                let clause = refute_not_equal(alloc, trail, places, self.sum.bound)?;
-                self.hand_over(clause, found)
-            }
+            Comparison::NotEqual => Ok(()), // A pass asks such a sum without a side.
         }
     }
 
@@ -82,13 +80,6 @@ impl<'a> Side<'a> {
             }
             Comparison::NotEqual => Ok(()),
         }
-    }
-
-    /// The ends of the sum.
-    fn ends(&self) -> Ends
-        ensures { AreEnds self.now.pass.trail.now.sets self.now.sum.now.places result }
-    {
-        ends_of(self.pass.trail, self.sum.places.as_slice())
     }
 
     /// That the sum, which has these ends, is at most its bound.
@@ -149,7 +140,11 @@ impl<'a> Side<'a> {
     }
 
     /// Hands over the clause, where there is one, with the literal behind it that the switch has another value.
-    fn hand_over(&self, clause: Option<Items<Lit>>, found: &mut Findings) -> Result<(), Memory>
+    pub(crate) fn hand_over(
+        &self,
+        clause: Option<Items<Lit>>,
+        found: &mut Findings,
+    ) -> Result<(), Memory>
         requires { IfSome clause (IsInferredGuarded self.now) }
         ensures found { AddsFound self.now.pass found.old found.new }
         ensures none { OnOk result (found.new ≡ [] → clause ≡ None) }

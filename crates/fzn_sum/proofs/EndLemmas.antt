@@ -80,3 +80,11 @@ tight_within sets places slack some covered = record {
 pub tight_by_widest : (sets : List IntSet) (places : List Place) (ends : Ends) (slack : ℤ) → AreEnds sets places ends → ends.widest ≤ℤ slack → IsTight sets places (least_sum sets places +ℤ slack)
 tight_by_widest sets places ends slack are covers =
     tight_within sets places slack (le_trans (pos 0) ends.widest slack are.not_below covers) (λ k d below. le_trans _ ends.widest slack (are.none_wider k d below) covers)
+
+-- and so where the ends say that it does
+pub tight_by_ends : (sets : List IntSet) (places : List Place) (ends : Ends) (bound : ℤ) → AreEnds sets places ends → (ends.least +ℤ ends.widest) ≤ℤ bound → IsTight sets places bound
+tight_by_ends sets places ends bound are fits =
+    let least_is = are.least_is in
+    let covers : ends.widest ≤ℤ (bound -ℤ ends.least) = omega (arith, ints) in
+    let total : least_sum sets places +ℤ (bound -ℤ ends.least) ≡ bound = omega (arith, ints) in
+    subst (λ (b : ℤ). IsTight sets places b) total (tight_by_widest sets places ends (bound -ℤ ends.least) are covers)

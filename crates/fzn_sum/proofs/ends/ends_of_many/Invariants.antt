@@ -1,7 +1,7 @@
 use Rattle.std.proofs.Common.{◌≡◌, ◌*◌, ◌≤◌, pos, ◌≤ℤ◌, take, unsigned_abs, All}
 use Rattle.fzn_builtin_rules.specs.Linear.{least_sum, greatest_sum}
 use Rattle.fzn_propagator.specs.Inference.{spread_of_place}
-use Rattle.fzn_sum.proofs.ends.ends_of.Given as goal
+use Rattle.fzn_sum.proofs.ends.ends_of_many.Given as goal
 
 abbrev pub invariant-loop-place : goal.invariant-loop-place
 invariant-loop-place l = record {
