@@ -3,7 +3,7 @@
 use crate::watchers::{Watch, Watchers};
 use fzn_domain::{Domain, Memory};
 use fzn_meaning::Model;
-use fzn_propagator::{Bounds, Counting, Propagator, Shift, Tally};
+use fzn_propagator::{Bounds, Counting, Pair, Propagator, Shift, Tally};
 use std::alloc::Global;
 
 /// What the bounds of a variable were before an entry of the trail.
@@ -22,6 +22,8 @@ struct Move {
 pub struct Counters {
     /// By the places of the propagators: `None` of one that counts nothing.
     tallies: Vec<Option<Tally>>,
+    /// The same: `None` of one of which bounds alone do not tell whether it is idle.
+    pairs: Vec<Option<Pair>>,
     /// By the numbers of the variables, less one: `None` where no propagator waits for the variable that counts.
     bounds: Vec<Option<Bounds>>,
     /// Newest last, as the trail grows and goes back.
@@ -38,10 +40,17 @@ impl Counters {
         watchers: &Watchers,
     ) -> Result<Counters, Memory> {
         let mut tallies = Vec::new(alloc);
+        let mut pairs = Vec::new(alloc);
         for counting in countings {
             match counting {
-                Some(counting) => tallies.push(Some(counting.tally))?,
-                None => tallies.push(None)?,
+                Some(counting) => {
+                    tallies.push(Some(counting.tally))?;
+                    pairs.push(counting.pair)?;
+                }
+                None => {
+                    tallies.push(None)?;
+                    pairs.push(None)?;
+                }
             }
         }
         let mut bounds = Vec::new(alloc);
@@ -54,6 +63,7 @@ impl Counters {
         }
         Ok(Counters {
             tallies,
+            pairs,
             bounds,
             moves: Vec::new(alloc),
         })
@@ -91,6 +101,12 @@ impl Counters {
         watch: Watch,
         shift: Shift,
     ) -> bool {
+        if watch.is_pair {
+            return match self.pairs.get(watch.propagator) {
+                Some(Some(pair)) => pair.is_idle(&self.bounds),
+                _ => false,
+            };
+        }
         let Some(weight) = watch.weight else {
             return false;
         };
@@ -132,6 +148,7 @@ impl Counters {
         let (start, end) = watchers.span(last.variable);
         for i in start..end {
             if let Some(watch) = watchers.get(i)
+                && !watch.is_pair
                 && let Some(weight) = watch.weight
                 && watch.event.is(change)
             {

@@ -16,6 +16,8 @@ pub struct Watch {
     pub event: Event,
     /// By what the variable counts in what the propagator counts. `None` where it counts nothing.
     pub weight: Option<i64>,
+    /// Whether bounds alone tell whether the propagator has anything to say.
+    pub is_pair: bool,
 }
 
 /// A watch with its variable.
@@ -137,6 +139,7 @@ fn add_watches<P: Propagator>(
             propagator: place,
             event: subscription.event,
             weight: counting.map(|counting| counting.weights.get(i).copied().unwrap_or(0)),
+            is_pair: counting.is_some_and(|counting| counting.pair.is_some()),
         };
         list.push(Listed {
             variable: subscription.variable.0,

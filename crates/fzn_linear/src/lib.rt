@@ -15,6 +15,7 @@ mod equality;
 mod form;
 mod kinds;
 mod opposite;
+mod pair;
 mod pass;
 mod room;
 mod side;

@@ -93,7 +93,7 @@ impl Room {
             None => self.spread,
         };
         match form.switch {
-            Some(switch) => is_left_under(form, ends, known(bounds, switch), spread),
+            Some(switch) => is_left_under(form, ends, Bounds::known(bounds, switch), spread),
             None => is_left_on(form, ends, spread),
         }
     }
@@ -191,21 +191,13 @@ fn declared(vars: &Items<Var>, term: Term) -> Option<Bounds> {
     }
 }
 
-/// The same by the bounds that are known.
-fn known(bounds: &[Option<Bounds>], term: Term) -> Option<Bounds> {
-    match term {
-        Term::Constant(value) => Some(Bounds::at(value)),
-        Term::Variable(var) => bounds.get(var.0.wrapping_sub(1)).copied().flatten(),
-    }
-}
-
 /// How much the place may give above its least.
 fn spread_of(place: Place, bounds: &[Option<Bounds>]) -> i64 {
-    match known(bounds, place.term) {
-        Some(Bounds { low, high }) => {
-            let width = high.wrapping_sub(low);
-            place.coefficient.wrapping_mul(width).wrapping_abs()
-        }
+    match Bounds::known(bounds, place.term) {
+        Some(bounds) => place
+            .coefficient
+            .wrapping_mul(bounds.spread())
+            .wrapping_abs(),
         None => i64::MAX,
     }
 }

@@ -12,6 +12,7 @@ ghost use Rattle.fzn_linear.specs.Passes.{AddsInferences};
 ghost use Rattle.fzn_linear.specs.Wakes.{sum_subscriptions};
 
 use crate::form::SumForm;
+use crate::pair::pair_of;
 use crate::pass::Pass;
 use crate::room::{Room, moved};
 use crate::wake::{Wake, subscriptions_of};
@@ -24,7 +25,7 @@ use std::alloc::Global;
 /// A sum of more places is wide.
 const WIDE: usize = 64;
 
-/// A sum of fewer places is not counted: it costs no more to ask it.
+/// A sum of fewer places is not counted.
 const FEWEST: usize = 3;
 
 /// The sum of a constraint's form compares so with its bound, and the opposite form does not.
@@ -91,10 +92,17 @@ impl Propagator for SumPropagator {
         }
     }
 
-    /// The ends of the sum.
+    /// The ends of the sum; of two places their bounds tell enough.
     fn counting(&self, alloc: Global) -> Result<Option<Counting>, Memory>
         ensures counts { IfOk result (λ found. IfSome found (CountsForm self.now.form)) }
     {
+        if let Some(pair) = pair_of(&self.form) {
+            return Ok(Some(Counting {
+                tally: Tally { low: 0, high: 0 },
+                weights: Vec::new(alloc),
+                pair: Some(pair),
+            }));
+        }
         if self.form.places.len() < FEWEST {
             return Ok(None);
         }
@@ -105,6 +113,7 @@ impl Propagator for SumPropagator {
         Ok(Some(Counting {
             tally: room.ends(),
             weights,
+            pair: None,
         }))
     }
 

@@ -4,6 +4,7 @@ ghost use Rattle.fzn_domain.specs.IntSet.{size, least, greatest};
 
 use crate::event::Change;
 use fzn_domain::Domain;
+use fzn_values::Term;
 
 /// The least and the greatest value of a variable.
 #[derive(Clone, Copy, Debug)]
@@ -47,6 +48,19 @@ impl Bounds {
             low: value,
             high: value,
         }
+    }
+
+    /// Those of a term, where these are known of the variables, by their numbers less one.
+    pub fn known(bounds: &[Option<Bounds>], term: Term) -> Option<Bounds> {
+        match term {
+            Term::Constant(value) => Some(Bounds::at(value)),
+            Term::Variable(var) => bounds.get(var.0.wrapping_sub(1)).copied().flatten(),
+        }
+    }
+
+    /// How far the greatest value lies above the least.
+    pub fn spread(self) -> i64 {
+        self.high.wrapping_sub(self.low)
     }
 
     /// What is added to them to become others.

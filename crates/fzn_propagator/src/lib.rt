@@ -12,7 +12,7 @@
 pub use bounds::{Bounds, Shift};
 pub use constraints::Constraints;
 pub use cost::Cost;
-pub use counting::{Counting, Tally};
+pub use counting::{Counting, Pair, Tally};
 pub use event::{Change, Event};
 pub use findings::Findings;
 pub use forcing::is_forcing;
