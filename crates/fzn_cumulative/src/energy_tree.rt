@@ -43,9 +43,10 @@ impl EnergyTree {
     pub(crate) fn new(alloc: Global, count: usize) -> Result<EnergyTree, Memory> {
         let mut first: usize = 1;
         for _ in 0..64 {
-            if first < count {
-                first = first.saturating_mul(2);
+            if count <= first {
+                break;
             }
+            first = first.saturating_mul(2);
         }
         let nodes = Vec::from_elem(alloc, Node::empty(), first.saturating_mul(2))?;
         Ok(EnergyTree { nodes, first })
