@@ -112,6 +112,13 @@ fn claim_out(pass: &Pass, k: usize, value: &i64) -> Claim
 {
     let term = pass.places[k];
     let ends = interval_of(pass.trail, term);
+    if ends.low == ends.high {
+        return Claim {
+            term,
+            op: Op::Equal,
+            number: ends.low,
+        };
+    }
     if !is_close_place(pass, k, ends) {
         if *value < ends.low {
             let nearest = nearest(pass, k, Op::AtMost, value, &ends.low);
@@ -164,6 +171,19 @@ fn explain_out(pass: &Pass, k: usize, value: &i64, clause: &mut Items<Lit>) -> R
     Ok(())
 }
 
+/// Whether the row's value is out of this place, where there is one, and the clause says so.
+fn is_said_out(pass: &Pass, r: usize, k: usize, clause: &Items<Lit>) -> bool
+    requires whole { IsRowOfTable pass.now r }
+    ensures { IsTrue result → IsOutAt pass.now.trail.now.sets pass.now.places.now (numbers_in pass.now.rows.now) r k }
+{
+    if k >= pass.places.len() {
+        return false;
+    }
+    let value = pass.number_at(r, k);
+    !may_be(pass.trail, pass.places[k], &value)
+        && is_said(pass.trail, pass.places[k], &value, clause)
+}
+
 /// A place that the row's value there is out of: one of which the clause says so, where there is one, else the first.
 fn place_out(pass: &Pass, r: usize, clause: &Items<Lit>) -> Option<usize>
     requires whole { IsRowOfTable pass.now r }
@@ -185,8 +205,14 @@ fn place_out(pass: &Pass, r: usize, clause: &Items<Lit>) -> Option<usize>
     found
 }
 
-/// The same, but this place before all others.
-fn first_place_out(pass: &Pass, r: usize, p: usize, clause: &Items<Lit>) -> Option<usize>
+/// The same, but this place before all others, and then the one that was the last row's, where the clause says that the value is out of it.
+fn first_place_out(
+    pass: &Pass,
+    r: usize,
+    p: usize,
+    last: usize,
+    clause: &Items<Lit>,
+) -> Option<usize>
     requires whole { IsRowOfTable pass.now r }
     requires in_range { p < length pass.now.places.now }
     ensures found { IfSome result (IsOutAt pass.now.trail.now.sets pass.now.places.now (numbers_in pass.now.rows.now) r) }
@@ -195,20 +221,30 @@ fn first_place_out(pass: &Pass, r: usize, p: usize, clause: &Items<Lit>) -> Opti
     if !may_be(pass.trail, pass.places[p], &pass.number_at(r, p)) {
         return Some(p);
     }
+    if is_said_out(pass, r, last, clause) {
+        return Some(last);
+    }
     place_out(pass, r, clause)
 }
 
-/// Adds to a false clause what it takes to say that some value of the row is not in its place's set, at this place where it can be. `false`
-/// where each is.
-fn refute_row(pass: &Pass, r: usize, p: usize, clause: &mut Items<Lit>) -> Result<bool, Memory>
+/// Adds to a false clause what it takes to say that some value of the row is not in its place's set, at this place where it can be, else at
+/// the last one where the clause says so already. `false` where each is.
+fn refute_row(
+    pass: &Pass,
+    r: usize,
+    p: usize,
+    last: &mut usize,
+    clause: &mut Items<Lit>,
+) -> Result<bool, Memory>
     requires whole { IsRowOfTable pass.now r }
     requires in_range { p < length pass.now.places.now }
     requires still { IsFalseClause pass.now.trail.now clause.old }
     ensures { IfOk result (λ out. MatchBool out (IsGrown pass.now.trail.now (IsOutOn pass.now r) clause.old clause.new) (IsOpenRow pass.now r)) }
 {
-    let Some(k) = first_place_out(pass, r, p, clause) else {
+    let Some(k) = first_place_out(pass, r, p, *last, clause) else {
         return Ok(false);
     };
+    *last = k;
     explain_out(pass, k, &pass.number_at(r, k), clause)?;
     Ok(true)
 }
@@ -273,10 +309,11 @@ fn explain_claim(pass: &Pass, p: usize, op: Op, bound: &i64) -> Result<Option<It
     ensures none { IfOk result (λ found. IfNone found (IsClaimSupported pass.now p op bound.now)) }
 {
     let mut clause = Items::new(pass.alloc);
+    let mut last = p;
     let mut r = first_row(pass, p, op, bound);
     while r < pass.count() {
         if row_stands(pass, r, p, op, bound) {
-            if !refute_row(pass, r, p, &mut clause)? {
+            if !refute_row(pass, r, p, &mut last, &mut clause)? {
                 return Ok(None);
             }
         }
