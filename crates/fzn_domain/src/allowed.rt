@@ -10,6 +10,15 @@ ghost use Rattle.fzn_domain.specs.Allowed.{allows, selected, Forbids, IsNextAllo
 use fzn_numbers::{SharedBits, SharedList, WIDEST, WIDTH, WordSet};
 use std::alloc::{AllocError as Memory, Global};
 
+/// Sets of fewer numbers are kept as bits from the beginning.
+const ALWAYS_BITS: i64 = 4096;
+
+/// So many holes are never too many.
+const FEW_HOLES: usize = 32;
+
+/// How many numbers the bits of a word stand for.
+const WORD: usize = 64;
+
 /// Which numbers between the bounds are members.
 #[derive(Drop)]
 pub enum Values {
@@ -28,7 +37,7 @@ impl Values {
     {
         if high - low < WIDTH {
             Ok(Values::Word(WordSet::full(low)))
-        } else if high - low < WIDEST {
+        } else if high - low < ALWAYS_BITS {
             Ok(Values::Bits(SharedBits::full(alloc, low, high)?))
         } else {
             Ok(Values::AllBut(SharedList::new(alloc)?))
@@ -51,7 +60,7 @@ impl Values {
     {
         if high - low < WIDTH {
             Ok(Values::Word(WordSet::from_slice(low, values)))
-        } else if high - low < WIDEST {
+        } else if high - low < ALWAYS_BITS {
             Ok(Values::Bits(SharedBits::from_slice(alloc, low, high, values)?))
         } else {
             Ok(Values::Listed(list))
@@ -186,6 +195,26 @@ impl Values {
             Values::AllBut(holes) => holes.insert(value)?,
             Values::Bits(bits) => bits.remove(value)?,
             Values::Word(set) => set.remove(value),
+        }
+        Ok(())
+    }
+
+    /// Keeps the numbers as bits from now on, where holes were kept, and bits of the numbers from low to high take less memory. Each number
+    /// from low to high is allowed as before; which others are does not matter.
+    pub fn gather(&mut self, low: i64, high: i64) -> Result<(), Memory>
+        requires ordered { low ≤ℤ high }
+        requires low_in_limits { IsInLimits low }
+        requires high_in_limits { IsInLimits high }
+        ensures same { (v : ℤ) → low ≤ℤ v → v ≤ℤ high → allows self.new v ≡ allows self.old v }
+        ensures err { OnErr result (self.new ≡ self.old) }
+    {
+        if let Values::AllBut(holes) = self {
+            if high - low < WIDEST
+                && holes.count_within(low, high) > FEW_HOLES + (high - low) as usize / WORD
+            {
+                let gaps = holes.gaps(low, high)?;
+                *self = Values::Bits(gaps);
+            }
         }
         Ok(())
     }

@@ -113,9 +113,9 @@ size-within_parts s low high h =
     not_under x e = grind (arith, ints)
 
 -- the number at a place, as the code computes it
-pub number_at : (first : ℤ) (k : ℕ) → CanBeFirst first → k < 4096 → to_z w64 (of_z w64 (to_z w64 (of_z w64 first) +ℤ to_z w64 k)) ≡ first +ℤ pos k
+pub number_at : (first : ℤ) (k : ℕ) → CanBeFirst first → k < 16384 → to_z w64 (of_z w64 (to_z w64 (of_z w64 first) +ℤ to_z w64 k)) ≡ first +ℤ pos k
 number_at first k can h = rw (real first can) (computed first k can h) where
-  computed : (first : ℤ) (k : ℕ) → CanBeFirst first → k < 4096 → to_z w64 (of_z w64 (first +ℤ to_z w64 k)) ≡ first +ℤ pos k
+  computed : (first : ℤ) (k : ℕ) → CanBeFirst first → k < 16384 → to_z w64 (of_z w64 (first +ℤ to_z w64 k)) ≡ first +ℤ pos k
   computed first k can h = grind (arith, ints, can.before, can.behind)
 
 -- ---- membership
@@ -392,9 +392,9 @@ module _ (first : ℤ) (words : List ℕ) (s : IntSet) (is : members first words
     reached : (k : ℕ) → v ≡ first +ℤ pos k → first ≤ℤ v
     reached k e = omega (arith, ints)
 
-  pub near_first : length words ≤ 64 → v <ℤ (first +ℤ pos 4096)
+  pub near_first : length words ≤ 256 → v <ℤ (first +ℤ pos 16384)
   near_first few = let k = place_of first words s is v there in near k.0 k.1 k.2 where
-    near : (k : ℕ) → v ≡ first +ℤ pos k → k < places words → v <ℤ (first +ℤ pos 4096)
+    near : (k : ℕ) → v ≡ first +ℤ pos k → k < places words → v <ℤ (first +ℤ pos 16384)
     near k e h = omega (arith, ints)
 
   pub place_within : (place : ℕ) → v ≡ first +ℤ pos place → place < places words
@@ -457,13 +457,13 @@ gap_behind words from p gap inside on = elim (cases_lt from p) [
       absurd (true≢false (sym on ∙ ap (λ (k : ℕ). has_bit words k) (sym same) ∙ gap.unset (omega arith)))
 ]
 
-pub end_at : (first : ℤ) (k : ℕ) → CanBeFirst first → k ≤ 4096 → to_z w64 (of_z w64 (to_z w64 (of_z w64 (to_z w64 (of_z w64 first) +ℤ to_z w64 k)) -ℤ pos 1)) ≡ first +ℤ pos k -ℤ pos 1
+pub end_at : (first : ℤ) (k : ℕ) → CanBeFirst first → k ≤ 16384 → to_z w64 (of_z w64 (to_z w64 (of_z w64 (to_z w64 (of_z w64 first) +ℤ to_z w64 k)) -ℤ pos 1)) ≡ first +ℤ pos k -ℤ pos 1
 end_at first k can h = rw (real first can) (computed first k can h) where
-  sum : (first : ℤ) (k : ℕ) → CanBeFirst first → k ≤ 4096 → to_z w64 (of_z w64 (first +ℤ to_z w64 k)) ≡ first +ℤ pos k
+  sum : (first : ℤ) (k : ℕ) → CanBeFirst first → k ≤ 16384 → to_z w64 (of_z w64 (first +ℤ to_z w64 k)) ≡ first +ℤ pos k
   sum first k can h = grind (arith, ints, can.before, can.behind)
 
-  less : (first : ℤ) (k : ℕ) → CanBeFirst first → k ≤ 4096 → to_z w64 (of_z w64 (first +ℤ pos k -ℤ pos 1)) ≡ first +ℤ pos k -ℤ pos 1
+  less : (first : ℤ) (k : ℕ) → CanBeFirst first → k ≤ 16384 → to_z w64 (of_z w64 (first +ℤ pos k -ℤ pos 1)) ≡ first +ℤ pos k -ℤ pos 1
   less first k can h = grind (arith, ints, can.before, can.behind)
 
-  computed : (first : ℤ) (k : ℕ) → CanBeFirst first → k ≤ 4096 → to_z w64 (of_z w64 (to_z w64 (of_z w64 (first +ℤ to_z w64 k)) -ℤ pos 1)) ≡ first +ℤ pos k -ℤ pos 1
+  computed : (first : ℤ) (k : ℕ) → CanBeFirst first → k ≤ 16384 → to_z w64 (of_z w64 (to_z w64 (of_z w64 (first +ℤ to_z w64 k)) -ℤ pos 1)) ≡ first +ℤ pos k -ℤ pos 1
   computed first k can h = ap (λ (v : ℤ). to_z w64 (of_z w64 (v -ℤ pos 1))) (sum first k can h) ∙ less first k can h

@@ -66,9 +66,9 @@ pub record IsWritten (old new : List ℕ) (place : ℕ) (bit : Bool) : Type 0 wh
 -- the number at place 0: the one before it and each that bits can stand for behind it fit in 64 bits
 pub record CanBeFirst (first : ℤ) : Type 0 where
   pub before : FitsSigned w64 (first -ℤ pos 1)
-  pub behind : FitsSigned w64 (first +ℤ pos 4096)
+  pub behind : FitsSigned w64 (first +ℤ pos 16384)
 
 pub record IsPlaced (first : ℤ) (words : List ℕ) : Type 0 where
   pub can_be_first : CanBeFirst first
   pub some : 1 ≤ length words
-  pub few : length words ≤ 64
+  pub few : length words ≤ 256

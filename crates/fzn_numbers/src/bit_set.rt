@@ -11,7 +11,7 @@ use std::alloc::{AllocError, Global};
 use std::marker::Model;
 
 /// The greatest width of a set that is kept as bits.
-pub const WIDEST: i64 = 4096;
+pub const WIDEST: i64 = 16384;
 
 /// The number at the first place, and the bits.
 #[derive(Drop)]
@@ -40,7 +40,7 @@ impl BitSet {
     pub fn full(alloc: Global, low: i64, high: i64) -> Result<BitSet, AllocError>
         requires low { CanBeFirst low }
         requires ordered { low ≤ℤ high }
-        requires narrow { high <ℤ (low +ℤ pos 4096) }
+        requires narrow { high <ℤ (low +ℤ pos 16384) }
         ensures { IfOk result (λ it. it ≡ numbers_from low (whole_words (width low high))) }
     {
         let words = repeated(alloc, u64::MAX, word_count(low, high))?;
@@ -56,7 +56,7 @@ impl BitSet {
     ) -> Result<BitSet, AllocError>
         requires low { CanBeFirst low }
         requires ordered { low ≤ℤ high }
-        requires narrow { high <ℤ (low +ℤ pos 4096) }
+        requires narrow { high <ℤ (low +ℤ pos 16384) }
         requires between { All (λ v. (low ≤ℤ v) × (v ≤ℤ high)) values.now }
         ensures { IfOk result (λ it. it ≡ set.from_list values.now) }
     {
@@ -157,7 +157,7 @@ fn repeated(alloc: Global, word: u64, count: usize) -> Result<Vec<u64>, AllocErr
 pub fn offset(first: i64, value: i64) -> usize
     requires first { CanBeFirst first }
     requires from_first { first ≤ℤ value }
-    requires near { value <ℤ (first +ℤ pos 4096) }
+    requires near { value <ℤ (first +ℤ pos 16384) }
     ensures { value ≡ first +ℤ pos result }
 {
     (value - first) as usize
@@ -167,9 +167,9 @@ pub fn offset(first: i64, value: i64) -> usize
 fn word_count(low: i64, high: i64) -> usize
     requires low { CanBeFirst low }
     requires ordered { low ≤ℤ high }
-    requires narrow { high <ℤ (low +ℤ pos 4096) }
+    requires narrow { high <ℤ (low +ℤ pos 16384) }
     ensures some { 1 ≤ result }
-    ensures few { result ≤ 64 }
+    ensures few { result ≤ 256 }
     ensures exact { result * 64 ≡ whole_words (width low high) }
     ensures enough { high <ℤ (low +ℤ pos (result * 64)) }
 {
@@ -179,7 +179,7 @@ fn word_count(low: i64, high: i64) -> usize
 /// The place of a number: 0 for all before the first, and the number of places for all behind the last.
 pub fn place_of(first: i64, count: usize, value: i64) -> usize
     requires first { CanBeFirst first }
-    requires few { count ≤ 4096 }
+    requires few { count ≤ 16384 }
     ensures { result ≡ place_from first count value }
 {
     if value <= first {

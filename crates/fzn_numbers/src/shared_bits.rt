@@ -34,7 +34,7 @@ impl SharedBits {
     pub fn full(alloc: Global, low: i64, high: i64) -> Result<SharedBits, AllocError>
         requires low { CanBeFirst low }
         requires ordered { low ≤ℤ high }
-        requires narrow { high <ℤ (low +ℤ pos 4096) }
+        requires narrow { high <ℤ (low +ℤ pos 16384) }
         ensures { IfOk result (λ it. it ≡ numbers_from low (whole_words (width low high))) }
     {
         let set = BitSet::full(alloc, low, high)?;
@@ -51,7 +51,7 @@ impl SharedBits {
     ) -> Result<SharedBits, AllocError>
         requires low { CanBeFirst low }
         requires ordered { low ≤ℤ high }
-        requires narrow { high <ℤ (low +ℤ pos 4096) }
+        requires narrow { high <ℤ (low +ℤ pos 16384) }
         requires between { All (λ v. (low ≤ℤ v) × (v ≤ℤ high)) values.now }
         ensures { IfOk result (λ it. it ≡ set.from_list values.now) }
     {

@@ -1,9 +1,11 @@
 // A list of numbers with several owners.
-ghost use Rattle.std.specs.Prelude.{◌≡◌, ◌<ℤ◌, ◌≤ℤ◌, true, false, IfOk, OnOk, OnErr, IfNone, IfSome};
+ghost use Rattle.std.specs.Prelude.{◌≡◌, ℤ, ◌<ℤ◌, ◌≤ℤ◌, ◌+ℤ◌, pos, true, false, not, IfOk, OnOk, OnErr, IfNone, IfSome};
 ghost use Rattle.std.specs.FinSet as set;
 ghost use Rattle.fzn_numbers.specs.Ascending.{IsNextFrom, IsLastUpTo, NoneFrom, NoneUpTo};
 ghost use Rattle.fzn_numbers.specs.IntSet.{contains, size, no_values, within};
+ghost use Rattle.fzn_numbers.specs.Bits.{CanBeFirst};
 
+use crate::shared_bits::SharedBits;
 use crate::value_list::ValueList;
 use std::alloc::{AllocError, Global};
 use std::marker::Model;
@@ -13,6 +15,7 @@ use std::rc::Rc;
 #[derive(Drop)]
 pub struct SharedList {
     list: Rc<ValueList>,
+    alloc: Global,
 }
 
 impl Model for SharedList {
@@ -32,7 +35,7 @@ impl SharedList {
         ensures { IfOk result (λ it. it ≡ no_values) }
     {
         let list = Rc::new(alloc, ValueList::new(alloc))?;
-        Ok(SharedList { list })
+        Ok(SharedList { list, alloc })
     }
 
     /// The set of the given values, which may have any order and repeats.
@@ -41,7 +44,7 @@ impl SharedList {
     {
         let values = ValueList::from_slice(alloc, values)?;
         let list = Rc::new(alloc, values)?;
-        Ok(SharedList { list })
+        Ok(SharedList { list, alloc })
     }
 
     pub fn has(&self, value: i64) -> bool
@@ -76,12 +79,34 @@ impl SharedList {
         self.list.count_within(low, high)
     }
 
+    /// The numbers from low to high that are no members, kept as bits. Which numbers behind high it has does not matter.
+    pub fn gaps(&self, low: i64, high: i64) -> Result<SharedBits, AllocError>
+        requires low { CanBeFirst low }
+        requires ordered { low ≤ℤ high }
+        requires narrow { high <ℤ (low +ℤ pos 16384) }
+        ensures { IfOk result (λ gaps. (v : ℤ) → low ≤ℤ v → v ≤ℤ high → contains gaps v ≡ not (contains self.now v)) }
+    {
+        let mut gaps = SharedBits::full(self.alloc, low, high)?;
+        let mut from = low;
+        while let Some(value) = self.next_from(from) {
+            if value > high {
+                return Ok(gaps);
+            }
+            gaps.remove(value)?;
+            from = value + 1;
+        }
+        Ok(gaps)
+    }
+
     /// The same set, for one more owner.
     pub fn share(&self) -> Result<SharedList, AllocError>
         ensures { IfOk result (λ it. it ≡ self.now) }
     {
         let list = self.list.clone()?;
-        Ok(SharedList { list })
+        Ok(SharedList {
+            list,
+            alloc: self.alloc,
+        })
     }
 
     pub fn insert(&mut self, value: i64) -> Result<(), AllocError>

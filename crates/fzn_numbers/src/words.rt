@@ -28,7 +28,7 @@ pub fn clear_bit(words: &mut [u64], place: usize)
 
 /// The first bit set from the place on.
 pub fn next_bit(words: &[u64], from: usize) -> Option<usize>
-    requires { places words.now ≤ 4096 }
+    requires { places words.now ≤ 16384 }
     ensures found { IfSome result (IsNextBit words.now from) }
     ensures none { IfNone result (NoBitFrom words.now from) }
 {
@@ -45,7 +45,7 @@ pub fn next_bit(words: &[u64], from: usize) -> Option<usize>
 
 /// The first bit set from the word on.
 fn next_word(words: &[u64], first: usize) -> Option<usize>
-    requires few { places words.now ≤ 4096 }
+    requires few { places words.now ≤ 16384 }
     requires in_words { first ≤ length words.now }
     ensures found { IfSome result (IsNextBit words.now (first * 64)) }
     ensures none { IfNone result (NoBitFrom words.now (first * 64)) }
@@ -63,7 +63,7 @@ fn next_word(words: &[u64], first: usize) -> Option<usize>
 
 /// The first bit not set from the place on, or the number of places where each is set.
 pub fn next_gap(words: &[u64], from: usize) -> usize
-    requires few { places words.now ≤ 4096 }
+    requires few { places words.now ≤ 16384 }
     requires in_words { from < places words.now }
     ensures { IsGap words.now from result }
 {
@@ -77,7 +77,7 @@ pub fn next_gap(words: &[u64], from: usize) -> usize
 
 /// The first bit not set from the word on.
 fn next_word_with_gap(words: &[u64], first: usize) -> usize
-    requires few { places words.now ≤ 4096 }
+    requires few { places words.now ≤ 16384 }
     requires in_words { first ≤ length words.now }
     ensures { IsGap words.now (first * 64) result }
 {
@@ -94,7 +94,7 @@ fn next_word_with_gap(words: &[u64], first: usize) -> usize
 
 /// The last bit set below the place.
 pub fn last_bit(words: &[u64], end: usize) -> Option<usize>
-    requires few { places words.now ≤ 4096 }
+    requires few { places words.now ≤ 16384 }
     requires in_words { end ≤ places words.now }
     ensures found { IfSome result (IsLastBit words.now end) }
     ensures none { IfNone result (NoBitBelow words.now end) }
@@ -108,7 +108,7 @@ pub fn last_bit(words: &[u64], end: usize) -> Option<usize>
 
 /// The last bit set below the word.
 fn last_word(words: &[u64], end: usize) -> Option<usize>
-    requires few { places words.now ≤ 4096 }
+    requires few { places words.now ≤ 16384 }
     requires in_words { end ≤ length words.now }
     ensures found { IfSome result (IsLastBit words.now (end * 64)) }
     ensures none { IfNone result (NoBitBelow words.now (end * 64)) }
@@ -126,7 +126,7 @@ fn last_word(words: &[u64], end: usize) -> Option<usize>
 
 /// How many bits are set from one place up to another.
 pub fn count_between(words: &[u64], from: usize, end: usize) -> usize
-    requires few { places words.now ≤ 4096 }
+    requires few { places words.now ≤ 16384 }
     requires ordered { from ≤ end }
     requires in_words { end ≤ places words.now }
     ensures { result + bits_below words.now from ≡ bits_below words.now end }

@@ -15,7 +15,7 @@ returns-in-Some-clause-found c =
     let place : c.place_of-end.result ≡ place_from c.self.inside.first (places words) (c.args.bound +ℤ pos 1) = c.place_of-end.ensures ∙ (λ i. place_from (first i) (count i) (bound i)) in
     let found : IsLastBit words (place_from c.self.inside.first (places words) (c.args.bound +ℤ pos 1)) c.in-Some.place =
     subst (λ (n : ℕ). IsLastBit words n c.in-Some.place) place (subst (λ (ws : List ℕ). IsLastBit ws c.place_of-end.result c.in-Some.place) c.deref.ensures.value c.in-Some.ensures.found) in
-    let inside : c.in-Some.place < 4096 = omega (arith, found.below, c.self.invariant.few, place_few c.self.inside.first (c.args.bound +ℤ pos 1) (places words)) in
+    let inside : c.in-Some.place < 16384 = omega (arith, found.below, c.self.invariant.few, place_few c.self.inside.first (c.args.bound +ℤ pos 1) (places words)) in
     subst (λ (v : ℤ). IsLastUpTo c.args.self.now c.args.bound v) (sym (number_at c.self.inside.first c.in-Some.place c.self.invariant.can_be_first inside))
     (last_found c.self.inside.first words c.args.self.now c.self.view_is c.args.bound c.in-Some.place found)
 

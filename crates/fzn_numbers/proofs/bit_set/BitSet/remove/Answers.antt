@@ -15,7 +15,7 @@ offset-place-requires c =
     record {
       first = subst CanBeFirst first c.self.invariant.can_be_first;
       from_first = subst₂ (λ (f v : ℤ). f ≤ℤ v) first value (from_the_first inside.first inside.words.items c.args.self.now c.self.view_is c.args.value c.requires);
-      near = subst₂ (λ (f v : ℤ). v <ℤ (f +ℤ pos 4096)) first value (near_first inside.first inside.words.items c.args.self.now c.self.view_is c.args.value c.requires c.self.invariant.few);
+      near = subst₂ (λ (f v : ℤ). v <ℤ (f +ℤ pos 16384)) first value (near_first inside.first inside.words.items c.args.self.now c.self.view_is c.args.value c.requires c.self.invariant.few);
     }
 
 pub clear_bit-requires : goal.clear_bit-requires

@@ -13,7 +13,7 @@ returns-in-Some-clause-found c =
     let place : c.place_of-end.result ≡ place_from c.self.inside.first 64 (c.args.bound +ℤ pos 1) = c.place_of-end.ensures ∙ (λ i. place_from (first i) 64 (bound i)) in
     let found : IsLastBit (c.self.inside.word ∷ []) (place_from c.self.inside.first 64 (c.args.bound +ℤ pos 1)) c.in-Some.place =
     subst (λ (n : ℕ). IsLastBit (c.self.inside.word ∷ []) n c.in-Some.place) place c.in-Some.ensures.found in
-    let inside : c.in-Some.place < 4096 = omega (arith, found.below, place_few c.self.inside.first (c.args.bound +ℤ pos 1) 64) in
+    let inside : c.in-Some.place < 16384 = omega (arith, found.below, place_few c.self.inside.first (c.args.bound +ℤ pos 1) 64) in
     subst (λ (v : ℤ). IsLastUpTo c.args.self.now c.args.bound v) (sym (number_at c.self.inside.first c.in-Some.place c.self.invariant.can_be_first inside))
     (last_found c.self.inside.first (c.self.inside.word ∷ []) c.args.self.now c.self.view_is c.args.bound c.in-Some.place found)
 

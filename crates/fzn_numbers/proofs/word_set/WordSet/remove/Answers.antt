@@ -11,7 +11,7 @@ offset-place-requires-clause-from_first c =
 
 pub offset-place-requires-clause-near : goal.offset-place-requires-clause-near
 offset-place-requires-clause-near c =
-    subst₂ (λ (f v : ℤ). v <ℤ (f +ℤ pos 4096)) (sym (real _ c.self.invariant.can_be_first)) (sym (to_z-of_z c.ranges.value))
+    subst₂ (λ (f v : ℤ). v <ℤ (f +ℤ pos 16384)) (sym (real _ c.self.invariant.can_be_first)) (sym (to_z-of_z c.ranges.value))
     (near_first c.self.inside.first (c.self.inside.word ∷ []) c.args.self.now c.self.view_is c.args.value c.requires c.self.invariant.few)
 
 pub overflow_shl-self : goal.overflow_shl-self
