@@ -10,10 +10,10 @@ ghost use Rattle.fzn_domain.specs.Allowed.{allows, selected, Forbids, IsNextAllo
 use fzn_numbers::{SharedBits, SharedList, WIDEST, WIDTH, WordSet};
 use std::alloc::{AllocError as Memory, Global};
 
-/// Sets of fewer numbers are kept as bits from the beginning.
+/// A set whose numbers lie closer together than this, from the least to the greatest, is kept as bits from the beginning.
 const ALWAYS_BITS: i64 = 4096;
 
-/// So many holes are never too many.
+/// With up to so many holes the holes are kept, however few words bits would take.
 const FEW_HOLES: usize = 32;
 
 /// How many numbers the bits of a word stand for.

@@ -1,9 +1,9 @@
 //! Finite sets of whole numbers, kept as rising lists, as the bits of words or as those of one word.
 //!
 //! In: numbers, or the first and the last of those that a set shall have; then one number at a time that goes in or out. Out: whether a
-//! number is a member, the members next to a number, how many lie between two. Proved against `specs/IntSet.antt`: however it is kept, a
-//! set is its members. `specs/Ascending.antt` says what neighbours are in a set and in a rising list, `specs/Bits.antt` which numbers bits
-//! stand for.
+//! number is a member, the members next to a number, how many lie between two; of a list also the numbers between two that it lacks, as
+//! bits. Proved against `specs/IntSet.antt`: however it is kept, a set is its members. `specs/Ascending.antt` says what neighbours are in a
+//! set and in a rising list, `specs/Bits.antt` which numbers bits stand for.
 #![tactic(auto)]
 
 pub use bit_set::WIDEST;
