@@ -147,7 +147,29 @@ fn is_wide_to(alloc: Global, high: i64, left: usize) -> Result<bool, Memory>
     )
 }
 
-/// One word, several words, and a list.
+/// Whether a wide range is asked for and copied alike, however many of its values were taken out: the even ones from 2 to 598.
+fn is_thinned(alloc: Global) -> Result<bool, Memory> {
+    let mut domain = Domain::range(alloc, 1, 10_000)?;
+    for i in 1..150 {
+        keep(&mut domain, Op::NotEqual, 2 * i)?;
+    }
+    let few_holes = domain.copy()?;
+    for i in 150..300 {
+        keep(&mut domain, Op::NotEqual, 2 * i)?;
+    }
+    Ok(
+        few_holes.len() == 9_851
+            && few_holes.contains(300)
+            && domain.len() == 9_701
+            && !domain.contains(300)
+            && domain.above(597) == Some(599)
+            && domain.below(599) == Some(597)
+            && nth(&domain, 299) == Some(599)
+            && run_end(&domain, 599) == Some(10_000),
+    )
+}
+
+/// One word, several words, and a list, also of holes that become several words.
 #[test]
 fn sets_however_kept(rt: HostRuntime) -> Result<(), Fail> {
     assert!(rt; is_spread(rt.alloc(), 2)?);
@@ -156,6 +178,7 @@ fn sets_however_kept(rt: HostRuntime) -> Result<(), Fail> {
     assert!(rt; is_wide_to(rt.alloc(), 20, 19)?);
     assert!(rt; is_wide_to(rt.alloc(), 200, 199)?);
     assert!(rt; is_wide_to(rt.alloc(), 20_000, 19_999)?);
+    assert!(rt; is_thinned(rt.alloc())?);
     Ok(())
 }
 
