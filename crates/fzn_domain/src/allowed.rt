@@ -16,9 +16,6 @@ const ALWAYS_BITS: i64 = 4096;
 /// With up to so many holes the holes are kept, however few words bits would take.
 const FEW_HOLES: usize = 32;
 
-/// How many numbers the bits of a word stand for.
-const WORD: usize = 64;
-
 /// Which numbers between the bounds are members.
 #[derive(Drop)]
 pub enum Values {
@@ -210,7 +207,7 @@ impl Values {
     {
         if let Values::AllBut(holes) = self {
             if high - low < WIDEST
-                && holes.count_within(low, high) > FEW_HOLES + (high - low) as usize / WORD
+                && holes.count_within(low, high) > FEW_HOLES + ((high - low) / WIDTH) as usize
             {
                 let gaps = holes.gaps(low, high)?;
                 *self = Values::Bits(gaps);

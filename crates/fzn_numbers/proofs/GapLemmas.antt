@@ -18,12 +18,6 @@ gaps_start gaps members from v h there = there ∙ ap (λ (b : Bool). not (b && 
   not_less : (from v : ℤ) → from ≤ℤ v → int_lt v from ≡ false
   not_less from v h = grind (arith, ints)
 
--- a number from there on is there still
-pub gap_there : (gaps members : IntSet) (from v : ℤ) → from ≤ℤ v → AreGapsBelow gaps members from v → contains gaps v ≡ true
-gap_there gaps members from v h so_far = so_far ∙ ap (λ (b : Bool). not (b && contains members v)) (not_less from v h) where
-  not_less : (from v : ℤ) → from ≤ℤ v → int_lt v from ≡ false
-  not_less from v h = grind (arith, ints)
-
 is_out : (s : IntSet) (v : ℤ) → (contains s v ≡ true → ⊥) → contains s v ≡ false
 is_out s v out = elim (cases_Bool (contains s v)) [
   | inl there ↦ absurd (out there)

@@ -99,8 +99,8 @@ fn is_close_place(pass: &Pass, p: usize, ends: Interval) -> bool
     is_narrow(pass.trail, pass.places[p], ends, pass.count())
 }
 
-/// A claim that is true of each value that the place has, and not of this value: a bound, where the value lies beyond the ends of a place
-/// whose values are many and far apart.
+/// A claim that is true of each value that the place has, and not of this value: the one value that is left; else a bound, where the value
+/// lies beyond the ends of a place whose values are many and far apart.
 fn claim_out(pass: &Pass, k: usize, value: &i64) -> Claim
     requires in_range { k < length pass.now.places.now }
     requires number { IsInLimits value.now }
