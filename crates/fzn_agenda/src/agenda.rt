@@ -4,20 +4,23 @@ ghost use Rattle.std.specs.List.{All};
 ghost use Rattle.fzn_domain.specs.IntSet.{IntSet, size};
 ghost use Rattle.fzn_domain.specs.Narrow.{AllFixed};
 
+use crate::changes::Changes;
 use crate::counters::Counters;
 use crate::order::leading_order;
 use crate::queue::Queue;
+use crate::waiting::Waiting;
+use crate::waking::{wake, wake_counted, wake_ends, wake_pairs};
 use crate::watchers::Watchers;
 use fzn_domain::{Domain, Memory, VarId};
 use fzn_meaning::Model;
-use fzn_propagator::{Change, Propagator};
+use fzn_propagator::{Bounds, Propagator};
 use fzn_trail::Trail;
 use std::alloc::Global;
 
 /// What is to be asked. It only chooses: what a propagator answers rests on the trail alone.
 #[derive(Debug, Drop)]
 pub struct Agenda {
-    watchers: Watchers,
+    waiting: Waiting,
     counters: Counters,
     queue: Queue,
     /// How many entries of the trail were looked at.
@@ -42,11 +45,13 @@ impl Agenda {
             countings.push(propagator.counting(alloc)?)?;
         }
         let watchers = Watchers::new(alloc, variables, propagators, &countings)?;
-        let counters = Counters::new(alloc, model, &countings, &watchers)?;
+        let mut counters = Counters::new(alloc, model, &countings, &watchers)?;
         let order = leading_order(alloc, variables, propagators, &watchers)?;
         let queue = Queue::new(alloc, propagators, order.as_slice())?;
+        let known = counters.known_mut();
+        let waiting = Waiting::new(alloc, variables, &watchers, &countings, &queue, known)?;
         Ok(Agenda {
-            watchers,
+            waiting,
             counters,
             queue,
             seen: 0,
@@ -87,20 +92,55 @@ impl Agenda {
         if var.0 == 0 || variables < var.0 {
             return Ok(());
         }
-        let before = trail.domain_before(place);
-        let present = trail.domain(var);
-        let change = Change::between(before, present);
-        let shift = self.counters.shift(var.0, place, before, present)?;
-        let (start, end) = self.watchers.span(var.0);
-        for i in start..end {
-            if let Some(watch) = self.watchers.get(i)
-                && watch.event.is(change)
-                && !self.counters.is_idle(propagators, watch, shift)
-            {
-                self.queue.push(watch.propagator);
-            }
+        let before = Bounds::of(trail.domain_before(place));
+        let now = Bounds::of(trail.domain(var));
+        let changes = Changes::between(before, now);
+        let Some(span) = self.waiting.span(var.0) else {
+            return Ok(());
+        };
+        if let Some(list) = self.waiting.asked(span) {
+            wake(&mut self.queue, list, changes);
+        }
+        if span.wants_bounds() {
+            self.counters.keep(var.0, place, before, now)?;
+            self.wake_by_bounds(propagators, var.0, changes, now);
         }
         Ok(())
+    }
+
+    /// Queues who counts the variable of this number and the pairs that have it, but for those that are idle. It changed so, and its bounds
+    /// are now these.
+    #[inline(always)]
+    fn wake_by_bounds<P: Propagator>(
+        &mut self,
+        propagators: &[P],
+        variable: usize,
+        changes: Changes,
+        now: Bounds,
+    ) {
+        let Some(span) = self.waiting.span(variable) else {
+            return;
+        };
+        let queue = &mut self.queue;
+        if let Some(list) = self.waiting.counted(span) {
+            let shift = self.counters.shift(variable, now);
+            wake_counted(queue, &mut self.counters, propagators, list, changes, shift);
+        }
+        self.counters.set_known(variable, now);
+        let known = self.counters.known();
+        if changes.has_low()
+            && let Some(list) = self.waiting.low_ends(span)
+        {
+            wake_ends(queue, known, list, now.low);
+        }
+        if changes.has_high()
+            && let Some(list) = self.waiting.high_ends(span)
+        {
+            wake_ends(queue, known, list, now.high);
+        }
+        if let Some(list) = self.waiting.pairs(span) {
+            wake_pairs(queue, known, list, changes);
+        }
     }
 
     /// How many propagators are queued.
@@ -131,7 +171,7 @@ impl Agenda {
             return false;
         }
         self.seen = entries;
-        self.counters.rewind(propagators, entries, &self.watchers);
+        self.counters.rewind(propagators, entries, &self.waiting);
         self.queue.clear();
         true
     }

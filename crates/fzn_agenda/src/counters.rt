@@ -1,9 +1,12 @@
 // What propagators count, moved as bounds move, and moved back as the trail goes back. It only chooses: nothing is promised of what is
 // counted.
-use crate::watchers::{Watch, Watchers};
-use fzn_domain::{Domain, Memory};
+use crate::changes::Changes;
+use crate::known::Known;
+use crate::waiting::{Counted, Waiting};
+use crate::watchers::Watchers;
+use fzn_domain::Memory;
 use fzn_meaning::Model;
-use fzn_propagator::{Bounds, Counting, Pair, Propagator, Shift, Tally};
+use fzn_propagator::{Bounds, Counting, Propagator, Shift, Tally};
 use std::alloc::Global;
 
 /// What the bounds of a variable were before an entry of the trail.
@@ -20,12 +23,12 @@ struct Move {
 /// them counts for all, and going back takes back each by itself.
 #[derive(Debug, Drop)]
 pub struct Counters {
-    /// By the places of the propagators: `None` of one that counts nothing.
-    tallies: Vec<Option<Tally>>,
-    /// The same: `None` of one of which bounds alone do not tell whether it is idle.
-    pairs: Vec<Option<Pair>>,
-    /// By the numbers of the variables, less one: `None` where no propagator waits for the variable that counts.
-    bounds: Vec<Option<Bounds>>,
+    /// By the places of the propagators: of no matter where one counts nothing.
+    tallies: Vec<Tally>,
+    /// The bounds by which was counted.
+    known: Known,
+    /// The same for those that count, by the numbers of the variables, less one: `None` where none waits for the variable.
+    shown: Vec<Option<Bounds>>,
     /// Newest last, as the trail grows and goes back.
     moves: Vec<Move>,
 }
@@ -40,49 +43,50 @@ impl Counters {
         watchers: &Watchers,
     ) -> Result<Counters, Memory> {
         let mut tallies = Vec::new(alloc);
-        let mut pairs = Vec::new(alloc);
         for counting in countings {
-            match counting {
-                Some(counting) => {
-                    tallies.push(Some(counting.tally))?;
-                    pairs.push(counting.pair)?;
-                }
-                None => {
-                    tallies.push(None)?;
-                    pairs.push(None)?;
-                }
-            }
+            tallies.push(match counting {
+                Some(counting) => counting.tally,
+                None => Tally { low: 0, high: 0 },
+            })?;
         }
-        let mut bounds = Vec::new(alloc);
+        let mut known = Vec::new(alloc);
+        let mut shown = Vec::new(alloc);
         for (i, var) in model.vars.as_slice().iter().enumerate() {
+            known.push(Bounds::of(&var.domain))?;
             if is_counted_by_any(watchers, i.wrapping_add(1)) {
-                bounds.push(Some(Bounds::of(&var.domain)))?;
+                shown.push(Some(Bounds::of(&var.domain)))?;
             } else {
-                bounds.push(None)?;
+                shown.push(None)?;
             }
         }
         Ok(Counters {
             tallies,
-            pairs,
-            bounds,
+            known: Known::new(known),
+            shown,
             moves: Vec::new(alloc),
         })
     }
 
-    /// How far the bounds of the variable of this number moved since they were counted, up to its present set. Before the entry at this place
-    /// it had another set.
-    pub fn shift(
+    /// The bounds by which was counted, and those of constants.
+    #[inline(always)]
+    pub fn known(&self) -> &Known {
+        &self.known
+    }
+
+    /// The same, for further constants.
+    pub fn known_mut(&mut self) -> &mut Known {
+        &mut self.known
+    }
+
+    /// Keeps what the bounds of the variable of this number were before the entry at this place, if they are others now.
+    #[inline(always)]
+    pub fn keep(
         &mut self,
         variable: usize,
         entry: usize,
-        before: &Domain,
-        present: &Domain,
-    ) -> Result<Shift, Memory> {
-        let Some(counted) = self.bounds_of(variable) else {
-            return Ok(Shift::none());
-        };
-        let before = Bounds::of(before);
-        let now = Bounds::of(present);
+        before: Bounds,
+        now: Bounds,
+    ) -> Result<(), Memory> {
         if !before.shift_to(now).is_none() {
             self.moves.push(Move {
                 entry,
@@ -90,47 +94,50 @@ impl Counters {
                 before,
             })?;
         }
-        self.set_bounds(variable, now);
-        Ok(counted.shift_to(now))
+        Ok(())
     }
 
-    /// The bounds of the watch's variable move so: whether its propagator, one of these, has nothing to say then.
+    /// How far the bounds of the variable of this number move from those by which was counted to these, which those that count are shown.
+    #[inline(always)]
+    pub fn shift(&mut self, variable: usize, now: Bounds) -> Shift {
+        if let Some(shown) = self.shown.get_mut(variable.wrapping_sub(1)) {
+            *shown = Some(now);
+        }
+        match self.known.of(variable) {
+            Some(counted) => counted.shift_to(now),
+            None => Shift::none(),
+        }
+    }
+
+    /// By these bounds of the variable of this number was counted.
+    #[inline(always)]
+    pub fn set_known(&mut self, variable: usize, now: Bounds) {
+        self.known.set(variable, now);
+    }
+
+    /// The bounds of the variable that is counted move so: whether the propagator, one of these, has nothing to say then.
+    #[inline(always)]
     pub fn is_idle<P: Propagator>(
         &mut self,
         propagators: &[P],
-        watch: Watch,
+        counted: &Counted,
         shift: Shift,
     ) -> bool {
-        if watch.is_pair {
-            return match self.pairs.get(watch.propagator) {
-                Some(Some(pair)) => pair.is_idle(&self.bounds),
-                _ => false,
-            };
-        }
-        let Some(weight) = watch.weight else {
+        let place = counted.propagator as usize;
+        let (Some(propagator), Some(tally)) = (propagators.get(place), self.tallies.get_mut(place))
+        else {
             return false;
         };
-        let Some(propagator) = propagators.get(watch.propagator) else {
-            return false;
-        };
-        let Some(Some(tally)) = self.tallies.get_mut(watch.propagator) else {
-            return false;
-        };
-        *tally = propagator.count(*tally, weight, shift);
-        propagator.is_idle(*tally, &self.bounds)
+        *tally = propagator.count(*tally, counted.weight, shift);
+        propagator.is_idle(*tally, &self.shown)
     }
 
     /// Only so many entries, the first, are sure to be those that were counted: what these propagators counted since is taken back.
-    pub fn rewind<P: Propagator>(
-        &mut self,
-        propagators: &[P],
-        entries: usize,
-        watchers: &Watchers,
-    ) {
+    pub fn rewind<P: Propagator>(&mut self, propagators: &[P], entries: usize, waiting: &Waiting) {
         for _ in 0..self.moves.len() {
             match self.moves.last().copied() {
                 Some(last) if entries <= last.entry => {
-                    self.take_back(propagators, last, watchers);
+                    self.take_back(propagators, last, waiting);
                 }
                 _ => return,
             }
@@ -138,53 +145,33 @@ impl Counters {
         }
     }
 
-    fn take_back<P: Propagator>(&mut self, propagators: &[P], last: Move, watchers: &Watchers) {
-        let Some(counted) = self.bounds_of(last.variable) else {
-            return;
-        };
-        let shift = counted.shift_to(last.before);
-        let change = shift.change();
-        self.set_bounds(last.variable, last.before);
-        let (start, end) = watchers.span(last.variable);
-        for i in start..end {
-            if let Some(watch) = watchers.get(i)
-                && !watch.is_pair
-                && let Some(weight) = watch.weight
-                && watch.event.is(change)
-            {
-                self.count_back(propagators, watch.propagator, weight, shift);
+    fn take_back<P: Propagator>(&mut self, propagators: &[P], last: Move, waiting: &Waiting) {
+        if let Some(span) = waiting.span(last.variable)
+            && let Some(list) = waiting.counted(span)
+        {
+            let shift = self.shift(last.variable, last.before);
+            let changes = Changes::of_shift(shift);
+            for counted in list {
+                if counted.changes.meet(changes) {
+                    self.count_back(propagators, counted, shift);
+                }
             }
         }
+        self.set_known(last.variable, last.before);
     }
 
-    fn count_back<P: Propagator>(
-        &mut self,
-        propagators: &[P],
-        place: usize,
-        weight: i64,
-        shift: Shift,
-    ) {
+    fn count_back<P: Propagator>(&mut self, propagators: &[P], counted: &Counted, shift: Shift) {
+        let place = counted.propagator as usize;
         if let Some(propagator) = propagators.get(place)
-            && let Some(Some(tally)) = self.tallies.get_mut(place)
+            && let Some(tally) = self.tallies.get_mut(place)
         {
-            *tally = propagator.count(*tally, weight, shift);
+            *tally = propagator.count(*tally, counted.weight, shift);
         }
     }
 
     /// The trail was made anew, with the same sets.
     pub fn renew(&mut self) {
         self.moves.clear();
-    }
-
-    /// Of the variable of this number.
-    fn bounds_of(&self, variable: usize) -> Option<Bounds> {
-        self.bounds.get(variable.wrapping_sub(1)).copied().flatten()
-    }
-
-    fn set_bounds(&mut self, variable: usize, bounds: Bounds) {
-        if let Some(place) = self.bounds.get_mut(variable.wrapping_sub(1)) {
-            *place = Some(bounds);
-        }
     }
 }
 

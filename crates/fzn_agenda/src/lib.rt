@@ -11,9 +11,14 @@
 pub use agenda::Agenda;
 
 mod agenda;
+mod changes;
 mod counters;
+mod known;
 mod order;
+mod pairs;
 mod queue;
 mod rank_set;
 mod sweep;
+mod waiting;
+mod waking;
 mod watchers;

@@ -11,9 +11,9 @@ const PATIENCE_EACH: usize = 16;
 
 /// Where a propagator is queued.
 #[derive(Clone, Copy, Debug)]
-struct Slot {
+pub struct Slot {
+    rank: u32,
     cost: Cost,
-    rank: usize,
 }
 
 /// The propagators that are queued, for each cost by their ranks. Where those that cost little find one thing after the other, as a sum may
@@ -54,9 +54,16 @@ impl Queue {
             patience: count.saturating_mul(PATIENCE_EACH).saturating_add(PATIENCE),
         };
         for place in 0..count {
-            queue.push(place);
+            if let Some(slot) = queue.slot(place) {
+                queue.push(slot);
+            }
         }
         Ok(queue)
+    }
+
+    /// Where the propagator at this place is queued.
+    pub fn slot(&self, place: usize) -> Option<Slot> {
+        self.slots.get(place).copied()
     }
 
     /// How many are queued.
@@ -65,13 +72,13 @@ impl Queue {
         few.wrapping_add(self.great.len())
     }
 
-    /// Queues the propagator at this place, where it is not.
-    pub fn push(&mut self, place: usize) {
-        if let Some(slot) = self.slots.get(place).copied() {
-            self.sweep_of(slot.cost).push(slot.rank);
-        }
+    /// Queues the propagator of this slot, where it is not.
+    #[inline(always)]
+    pub fn push(&mut self, slot: Slot) {
+        self.sweep_of(slot.cost).push(slot.rank as usize);
     }
 
+    #[inline(always)]
     fn sweep_of(&mut self, cost: Cost) -> &mut Sweep {
         match cost {
             Cost::Small => &mut self.small,
@@ -136,14 +143,14 @@ fn slots_in<P: Propagator>(
     let mut slots = Vec::new(alloc);
     for propagator in propagators {
         slots.push(Slot {
-            cost: propagator.cost(),
             rank: 0,
+            cost: propagator.cost(),
         })?;
     }
     for rank in 0..order.len() {
         let place = order[rank];
         if place < slots.len() {
-            slots[place].rank = rank;
+            slots[place].rank = u32::try_from(rank).unwrap_or(u32::MAX);
         }
     }
     Ok(slots)

@@ -1,0 +1,285 @@
+// Who waits for a variable, packed, as it is looked at where the variable changes.
+use crate::changes::Changes;
+use crate::known::Known;
+use crate::pairs::{KnownPair, PairEnd};
+use crate::queue::{Queue, Slot};
+use crate::watchers::{Watch, Watchers};
+use fzn_domain::Memory;
+use fzn_propagator::{Counting, Event};
+use std::alloc::{AllocError, Global};
+
+/// That a propagator waits for a variable, and is asked after each change that it waits for.
+#[derive(Clone, Copy, Debug)]
+pub struct Asked {
+    /// Where it is queued.
+    pub slot: Slot,
+    /// Those that it waits for.
+    pub changes: Changes,
+}
+
+/// The same of one that counts the variable, and is not asked where it is idle by that.
+#[derive(Clone, Copy, Debug)]
+pub struct Counted {
+    /// Where it is queued.
+    pub slot: Slot,
+    /// Those that it waits for.
+    pub changes: Changes,
+    /// Its place among the propagators, from 0 up.
+    pub propagator: u32,
+    /// By what the variable counts: any number.
+    pub weight: i64,
+}
+
+/// That a pair waits until a bound of a variable moves, and is asked where that leaves something to find.
+#[derive(Clone, Copy, Debug)]
+pub struct AskedEnd {
+    /// Where it is queued.
+    pub slot: Slot,
+    /// The end of its sum that the bound moves.
+    pub end: PairEnd,
+}
+
+/// That a pair waits for changes of a variable, and is asked where anything follows from it then.
+#[derive(Clone, Copy, Debug)]
+pub struct AskedPair {
+    /// Where it is queued.
+    pub slot: Slot,
+    /// Those that it waits for.
+    pub changes: Changes,
+    /// What is looked at.
+    pub pair: KnownPair,
+}
+
+/// A part of a list.
+#[derive(Clone, Copy, Debug)]
+struct Part {
+    from: u32,
+    upto: u32,
+}
+
+impl Part {
+    /// That from here to the end of the list.
+    fn behind<T>(from: usize, list: &Vec<T>) -> Result<Part, Memory> {
+        Ok(Part {
+            from: small(from)?,
+            upto: small(list.len())?,
+        })
+    }
+
+    #[inline(always)]
+    fn is_empty(self) -> bool {
+        self.upto <= self.from
+    }
+
+    /// That part of the list. `None` where it is empty.
+    #[inline(always)]
+    fn of<T>(self, list: &Vec<T>) -> Option<&[T]> {
+        if self.is_empty() {
+            return None;
+        }
+        list.get(self.from as usize..self.upto as usize)
+    }
+}
+
+/// Where those stand that wait for a variable.
+#[derive(Clone, Copy, Debug)]
+pub struct Span {
+    asked: Part,
+    counted: Part,
+    low_ends: Part,
+    high_ends: Part,
+    pairs: Part,
+}
+
+impl Span {
+    /// Whether any wants to know the bounds of the variable.
+    #[inline(always)]
+    pub fn wants_bounds(&self) -> bool {
+        !self.counted.is_empty()
+            || !self.low_ends.is_empty()
+            || !self.high_ends.is_empty()
+            || !self.pairs.is_empty()
+    }
+}
+
+/// Those that wait for a variable, one variable after the other.
+#[derive(Debug, Drop)]
+pub struct Waiting {
+    asked: Vec<Asked>,
+    counted: Vec<Counted>,
+    /// Ends of pairs that least values move.
+    low_ends: Vec<AskedEnd>,
+    /// Ends of pairs that greatest values move.
+    high_ends: Vec<AskedEnd>,
+    /// Pairs of which the variable is the switch, or stands in several places.
+    pairs: Vec<AskedPair>,
+    /// By the numbers of the variables, less one.
+    spans: Vec<Span>,
+}
+
+impl Waiting {
+    /// What the watches of so many variables come to, where the propagators count this and are queued so. The bounds of the constants of
+    /// pairs come to those that are known.
+    pub fn new(
+        alloc: Global,
+        variables: usize,
+        watchers: &Watchers,
+        countings: &[Option<Counting>],
+        queue: &Queue,
+        known: &mut Known,
+    ) -> Result<Waiting, Memory> {
+        let pairs = pairs_of(alloc, countings, known)?;
+        let mut waiting = Waiting {
+            asked: Vec::new(alloc),
+            counted: Vec::new(alloc),
+            low_ends: Vec::new(alloc),
+            high_ends: Vec::new(alloc),
+            pairs: Vec::new(alloc),
+            spans: Vec::new(alloc),
+        };
+        for index in 0..variables {
+            let variable = index.wrapping_add(1);
+            waiting.add_variable(variable, watchers, pairs.as_slice(), queue)?;
+        }
+        Ok(waiting)
+    }
+
+    /// Those that wait for the variable of this number, which is the next one.
+    fn add_variable(
+        &mut self,
+        variable: usize,
+        watchers: &Watchers,
+        pairs: &[Option<KnownPair>],
+        queue: &Queue,
+    ) -> Result<(), Memory> {
+        let (asked, counted) = (self.asked.len(), self.counted.len());
+        let (low_ends, high_ends) = (self.low_ends.len(), self.high_ends.len());
+        let before = self.pairs.len();
+        let (start, end) = watchers.span(variable);
+        for i in start..end {
+            if let Some(watch) = watchers.get(i)
+                && let Some(slot) = queue.slot(watch.propagator)
+            {
+                match pairs.get(watch.propagator).copied().flatten() {
+                    Some(pair) => self.add_pair(variable, watch.event, pair, slot)?,
+                    None => self.add(watch, slot)?,
+                }
+            }
+        }
+        self.spans.push(Span {
+            asked: Part::behind(asked, &self.asked)?,
+            counted: Part::behind(counted, &self.counted)?,
+            low_ends: Part::behind(low_ends, &self.low_ends)?,
+            high_ends: Part::behind(high_ends, &self.high_ends)?,
+            pairs: Part::behind(before, &self.pairs)?,
+        })?;
+        Ok(())
+    }
+
+    /// The watch of a propagator that is no pair.
+    fn add(&mut self, watch: Watch, slot: Slot) -> Result<(), Memory> {
+        let changes = Changes::of_event(watch.event);
+        match watch.weight {
+            Some(weight) if !watch.is_pair => self.counted.push(Counted {
+                slot,
+                changes,
+                propagator: small(watch.propagator)?,
+                weight,
+            })?,
+            _ => self.asked.push(Asked { slot, changes })?,
+        }
+        Ok(())
+    }
+
+    fn add_pair(
+        &mut self,
+        variable: usize,
+        event: Event,
+        pair: KnownPair,
+        slot: Slot,
+    ) -> Result<(), Memory> {
+        let changes = Changes::of_event(event);
+        let is_by_bounds = matches!(event, Event::Low | Event::High | Event::Bound);
+        let Some(seen) = pair.seen_from(variable).filter(|_| is_by_bounds) else {
+            self.pairs.push(AskedPair {
+                slot,
+                changes,
+                pair,
+            })?;
+            return Ok(());
+        };
+        if changes.has_low() {
+            let end = seen.low;
+            self.low_ends.push(AskedEnd { slot, end })?;
+        }
+        if changes.has_high() {
+            let end = seen.high;
+            self.high_ends.push(AskedEnd { slot, end })?;
+        }
+        Ok(())
+    }
+
+    /// Where those stand that wait for the variable of this number.
+    #[inline(always)]
+    pub fn span(&self, variable: usize) -> Option<&Span> {
+        self.spans.get(variable.wrapping_sub(1))
+    }
+
+    /// Those of a span that are asked after each change that they wait for. `None` where there is none, here and below.
+    #[inline(always)]
+    pub fn asked(&self, span: &Span) -> Option<&[Asked]> {
+        span.asked.of(&self.asked)
+    }
+
+    /// Those that count.
+    #[inline(always)]
+    pub fn counted(&self, span: &Span) -> Option<&[Counted]> {
+        span.counted.of(&self.counted)
+    }
+
+    /// Ends of pairs that the least value moves.
+    #[inline(always)]
+    pub fn low_ends(&self, span: &Span) -> Option<&[AskedEnd]> {
+        span.low_ends.of(&self.low_ends)
+    }
+
+    /// Ends of pairs that the greatest value moves.
+    #[inline(always)]
+    pub fn high_ends(&self, span: &Span) -> Option<&[AskedEnd]> {
+        span.high_ends.of(&self.high_ends)
+    }
+
+    /// The other pairs.
+    #[inline(always)]
+    pub fn pairs(&self, span: &Span) -> Option<&[AskedPair]> {
+        span.pairs.of(&self.pairs)
+    }
+}
+
+/// The pairs by the places of the propagators.
+fn pairs_of(
+    alloc: Global,
+    countings: &[Option<Counting>],
+    known: &mut Known,
+) -> Result<Vec<Option<KnownPair>>, Memory> {
+    let mut pairs = Vec::new(alloc);
+    for counting in countings {
+        let pair = match counting {
+            Some(counting) => counting.pair,
+            None => None,
+        };
+        pairs.push(match pair {
+            Some(pair) => KnownPair::of(&pair, known)?,
+            None => None,
+        })?;
+    }
+    Ok(pairs)
+}
+
+/// The number in 32 bits. `Err` where it has no room there: a list of so many has none in memory.
+fn small(number: usize) -> Result<u32, Memory> {
+    match u32::try_from(number) {
+        Ok(small) => Ok(small),
+        Err(_) => Err(AllocError),
+    }
+}

@@ -1,0 +1,54 @@
+// Who is queued once a variable has changed.
+use crate::changes::Changes;
+use crate::counters::Counters;
+use crate::known::Known;
+use crate::queue::Queue;
+use crate::waiting::{Asked, AskedEnd, AskedPair, Counted};
+use fzn_propagator::{Propagator, Shift};
+
+/// Queues those of the list that wait for one of these changes.
+#[inline(always)]
+pub fn wake(queue: &mut Queue, list: &[Asked], changes: Changes) {
+    for asked in list {
+        if asked.changes.meet(changes) {
+            queue.push(asked.slot);
+        }
+    }
+}
+
+/// The same of those that count, whose variable moves so, but for those that have nothing to say.
+#[inline(always)]
+pub fn wake_counted<P: Propagator>(
+    queue: &mut Queue,
+    counters: &mut Counters,
+    propagators: &[P],
+    list: &[Counted],
+    changes: Changes,
+    shift: Shift,
+) {
+    for counted in list {
+        if counted.changes.meet(changes) && !counters.is_idle(propagators, counted, shift) {
+            queue.push(counted.slot);
+        }
+    }
+}
+
+/// Queues the pairs of which anything follows at this end, once the bound of the variable has moved to this value.
+#[inline(always)]
+pub fn wake_ends(queue: &mut Queue, known: &Known, list: &[AskedEnd], value: i64) {
+    for asked in list {
+        if !asked.end.is_idle(value, known) {
+            queue.push(asked.slot);
+        }
+    }
+}
+
+/// Queues the pairs that wait for one of these changes, where anything follows.
+#[inline(always)]
+pub fn wake_pairs(queue: &mut Queue, known: &Known, list: &[AskedPair], changes: Changes) {
+    for asked in list {
+        if asked.changes.meet(changes) && !asked.pair.is_idle(known) {
+            queue.push(asked.slot);
+        }
+    }
+}
