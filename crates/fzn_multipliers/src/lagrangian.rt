@@ -53,12 +53,18 @@ impl Problem {
         self.rows.entries_of(row)
     }
 
+    /// Whether there is no objective, or a row has it: else no sum bounds it.
+    pub fn is_reached(&self) -> bool {
+        match self.objective {
+            None => true,
+            Some(objective) => self.used.contains(&objective.variable),
+        }
+    }
+
     /// How many numbers are looked at for one bound.
     pub fn cost(&self) -> usize {
-        let rows = self.rows.rows.len().saturating_mul(8);
-        let entries = self.rows.len().saturating_mul(2);
         let used = self.used.len().saturating_mul(2);
-        rows.saturating_add(entries).saturating_add(used)
+        self.rows.cost().saturating_add(used)
     }
 
     /// What single rows say of the objective, times this number.

@@ -117,6 +117,12 @@ impl Rows {
         Ok(())
     }
 
+    /// How many numbers are looked at where each is added once, and where it is asked of each whether it is met.
+    pub fn cost(&self) -> usize {
+        let rows = self.rows.len().saturating_mul(8);
+        rows.saturating_add(self.len().saturating_mul(2))
+    }
+
     /// How many entries they have together.
     pub fn len(&self) -> usize {
         self.entries.len()
