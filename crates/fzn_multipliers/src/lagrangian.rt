@@ -53,14 +53,6 @@ impl Problem {
         self.rows.entries_of(row)
     }
 
-    /// Whether there is no objective, or a row has it: else no sum bounds it.
-    pub fn is_reached(&self) -> bool {
-        match self.objective {
-            None => true,
-            Some(objective) => self.used.contains(&objective.variable),
-        }
-    }
-
     /// How many numbers are looked at for one bound.
     pub fn cost(&self) -> usize {
         let used = self.used.len().saturating_mul(2);

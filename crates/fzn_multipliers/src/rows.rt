@@ -117,6 +117,16 @@ impl Rows {
         Ok(())
     }
 
+    /// Whether one of them has the variable of this number, less one.
+    pub fn have(&self, variable: usize) -> bool {
+        for entry in self.entries.iter() {
+            if entry.variable == variable {
+                return true;
+            }
+        }
+        false
+    }
+
     /// How many numbers are looked at where each is added once, and where it is asked of each whether it is met.
     pub fn cost(&self) -> usize {
         let rows = self.rows.len().saturating_mul(8);

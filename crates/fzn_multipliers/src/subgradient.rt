@@ -7,6 +7,7 @@ ghost use Rattle.fzn_derive.specs.Derived.{IsDerivable};
 use crate::budget::{Budget, Rise};
 use crate::lagrangian::{Lagrangian, Problem};
 use crate::numbers::{divided, narrowed};
+use crate::objective::Objective;
 use crate::rows::{Row, Rows};
 use fzn_cited::Multiple;
 use fzn_derive::{Derivation, Deriver};
@@ -61,6 +62,9 @@ pub fn multipliers(alloc: Global, model: &Model, rows: Rows) -> Result<Option<De
     requires { IsWellFormed model.now }
     ensures { IfOk result (λ found. IfSome found (IsDerivable model.now.constraints (declared_sets model.now.vars))) }
 {
+    if !is_reached(model, &rows) {
+        return Ok(None);
+    }
     let problem = Problem::of(alloc, model, rows)?;
     let Some(multiples) = sought(alloc, &problem)? else {
         return Ok(None);
@@ -75,9 +79,17 @@ pub fn multipliers(alloc: Global, model: &Model, rows: Rows) -> Result<Option<De
     }
 }
 
+/// Whether there is no objective, or a row has it: else no sum bounds it.
+fn is_reached(model: &Model, rows: &Rows) -> bool {
+    match Objective::of(model) {
+        None => true,
+        Some(objective) => rows.have(objective.variable),
+    }
+}
+
 /// The rows of the problem with their multipliers, where there are some whose sum is worth it.
 fn sought(alloc: Global, problem: &Problem) -> Result<Option<Items<Multiple>>, Memory> {
-    if !problem.can_be_met || problem.free.is_empty() || !problem.is_reached() {
+    if !problem.can_be_met || problem.free.is_empty() {
         return Ok(None);
     }
     let mut ascent = Ascent::new(alloc, problem)?;

@@ -3,7 +3,7 @@ use crate::apart::Aparts;
 use crate::choosing::Chosen;
 use crate::definitions::{Definition, Definitions};
 use crate::lists::Lists;
-use crate::size::is_worth_a_look;
+use crate::size::{MOST_REFUTED, is_worth_a_look};
 use crate::tables::Tables;
 use fzn_domain::Memory;
 use fzn_meaning::{Constraint, Goal, Model};
@@ -74,7 +74,7 @@ impl Problem {
         let definitions = Definitions::of(alloc, rows, &bounds, target, &lists, &moves, &tables)?;
         let free = free_rows(alloc, rows, &definitions)?;
         let plain = plain_in(alloc, &used, &lists)?;
-        Ok(Some(Problem {
+        let problem = Problem {
             objective,
             free,
             definitions: definitions.all,
@@ -84,7 +84,11 @@ impl Problem {
             lists,
             bounds,
             plain,
-        }))
+        };
+        if objective.is_none() && MOST_REFUTED < problem.cost(rows) {
+            return Ok(None);
+        }
+        Ok(Some(problem))
     }
 
     /// How many numbers are looked at for one bound.

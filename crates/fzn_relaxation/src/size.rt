@@ -3,15 +3,16 @@ use fzn_meaning::{Constraint, Goal, Model};
 use fzn_moves::TableView;
 use fzn_multipliers::{Rows, Work};
 
-/// A model without an objective has at most so many numbers: each is looked at in each round, and what nothing meets shows only after some.
-const MOST_REFUTED: u64 = 6_000;
+/// So many numbers are looked at in a round, at the most, where there is no objective: that nothing meets a row shows only after several rounds.
+pub const MOST_REFUTED: usize = 6_000;
 
-/// Whether the model has an objective, or so few numbers that a row which nothing meets may be looked for.
+/// Whether the model has an objective, or so few numbers that a row which nothing meets may be looked for. They are counted before anything
+/// is made of them, so not all of them are.
 pub fn is_worth_a_look(model: &Model, rows: &Rows) -> bool {
     if !matches!(model.goal, Goal::Satisfy) {
         return true;
     }
-    let mut work = Work::new(MOST_REFUTED);
+    let mut work = Work::new(MOST_REFUTED as u64);
     if !work.take(rows.cost()) {
         return false;
     }
