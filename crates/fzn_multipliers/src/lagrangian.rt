@@ -55,10 +55,8 @@ impl Problem {
 
     /// How many numbers are looked at for one bound.
     pub fn cost(&self) -> usize {
-        let rows = self.rows.rows.len().saturating_mul(8);
-        let entries = self.rows.len().saturating_mul(2);
         let used = self.used.len().saturating_mul(2);
-        rows.saturating_add(entries).saturating_add(used)
+        self.rows.cost().saturating_add(used)
     }
 
     /// What single rows say of the objective, times this number.

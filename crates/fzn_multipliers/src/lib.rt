@@ -6,11 +6,13 @@
 #![tactic(auto)]
 
 pub use bounds::{Bounds, declared_bounds};
+pub use budget::{Budget, Rise};
 pub use rows::{Entry, Row, Rows};
 pub use subgradient::multipliers;
 pub use work::Work;
 
 mod bounds;
+mod budget;
 mod definitions;
 mod lagrangian;
 mod numbers;

@@ -117,6 +117,22 @@ impl Rows {
         Ok(())
     }
 
+    /// Whether one of them has the variable of this number, less one.
+    pub fn have(&self, variable: usize) -> bool {
+        for entry in self.entries.iter() {
+            if entry.variable == variable {
+                return true;
+            }
+        }
+        false
+    }
+
+    /// How many numbers are looked at where each is added once, and where it is asked of each whether it is met.
+    pub fn cost(&self) -> usize {
+        let rows = self.rows.len().saturating_mul(8);
+        rows.saturating_add(self.len().saturating_mul(2))
+    }
+
     /// How many entries they have together.
     pub fn len(&self) -> usize {
         self.entries.len()

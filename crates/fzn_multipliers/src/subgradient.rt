@@ -4,10 +4,11 @@ ghost use Rattle.fzn_meaning.specs.WellFormed.{IsWellFormed};
 ghost use Rattle.fzn_meaning.specs.Solutions.{declared_sets};
 ghost use Rattle.fzn_derive.specs.Derived.{IsDerivable};
 
+use crate::budget::{Budget, Rise};
 use crate::lagrangian::{Lagrangian, Problem};
 use crate::numbers::{divided, narrowed};
+use crate::objective::Objective;
 use crate::rows::{Row, Rows};
-use crate::work::Work;
 use fzn_cited::Multiple;
 use fzn_derive::{Derivation, Deriver};
 use fzn_domain::Memory;
@@ -34,10 +35,8 @@ const MOST: i128 = 1_000_000_000;
 
 const MOST_ROUNDS: usize = 1_500;
 
-/// So many numbers are looked at; and so many more where the bound has risen.
-const FIRST_WORK: u64 = 4_000_000;
-
-const MORE_WORK: u64 = 36_000_000;
+/// So many rounds are made whatever they cost: rows that nothing meets have shown it then, if they are alike.
+const LEAST_ROUNDS: u64 = 8;
 
 /// After so many rounds without a better bound the step is made shorter.
 const PATIENCE: usize = 20;
@@ -46,6 +45,9 @@ const PATIENCE: usize = 20;
 const WHOLE_STEP: i64 = 1024;
 
 const LEAST_STEP: i64 = 3;
+
+/// The least share of a step while the bound is not better than what is known without it.
+const LEAST_WAITING_STEP: i64 = 300;
 
 /// A bound has to rise by one part of so many, else it is not worth a sum.
 const WORTH: i128 = 200;
@@ -60,6 +62,9 @@ pub fn multipliers(alloc: Global, model: &Model, rows: Rows) -> Result<Option<De
     requires { IsWellFormed model.now }
     ensures { IfOk result (λ found. IfSome found (IsDerivable model.now.constraints (declared_sets model.now.vars))) }
 {
+    if !is_reached(model, &rows) {
+        return Ok(None);
+    }
     let problem = Problem::of(alloc, model, rows)?;
     let Some(multiples) = sought(alloc, &problem)? else {
         return Ok(None);
@@ -71,6 +76,14 @@ pub fn multipliers(alloc: Global, model: &Model, rows: Rows) -> Result<Option<De
         Ok(Some(sum))
     } else {
         Ok(None)
+    }
+}
+
+/// Whether there is no objective, or a row has it: else no sum bounds it.
+fn is_reached(model: &Model, rows: &Rows) -> bool {
+    match Objective::of(model) {
+        None => true,
+        Some(objective) => rows.have(objective.variable),
     }
 }
 
@@ -179,14 +192,13 @@ struct Ascent {
     weights: Vec<Weight>,
     lagrangian: Lagrangian,
     is_refutation: bool,
-    /// What the bound is without rows.
+    /// What is known of the objective without a sum.
     first: i128,
     best: i128,
     step: i64,
     /// How many rounds have not bettered the bound.
     stalled: usize,
-    work: Work,
-    is_extended: bool,
+    budget: Budget,
 }
 
 impl Ascent {
@@ -203,8 +215,7 @@ impl Ascent {
             best: 0,
             step: WHOLE_STEP,
             stalled: 0,
-            work: Work::new(FIRST_WORK),
-            is_extended: false,
+            budget: Budget::new(problem.cost(), LEAST_ROUNDS),
         };
         ascent.best = ascent.bound(problem, ONE);
         ascent.first = ascent.best.max(problem.known(ONE));
@@ -223,23 +234,30 @@ impl Ascent {
     /// Betters the bound while it can.
     fn rise(&mut self, problem: &Problem) {
         for _ in 0..MOST_ROUNDS {
-            if !self.can_work(problem.cost()) || !self.goes_on(problem) {
+            if !self.can_work() || !self.goes_on(problem) {
                 return;
             }
         }
     }
 
-    /// Whether so much work may be done.
-    fn can_work(&mut self, cost: usize) -> bool {
-        if self.work.take(cost) {
+    /// Whether there is work for one more round.
+    fn can_work(&mut self) -> bool {
+        if self.budget.take() {
             return true;
         }
-        if self.is_extended || !self.is_worth(self.best, ONE) {
-            return false;
+        let rise = self.risen();
+        self.budget.extend(rise)
+    }
+
+    /// How far the bound has come.
+    fn risen(&self) -> Rise {
+        if self.is_worth(self.best, ONE) {
+            Rise::Worthy
+        } else if self.first < self.best {
+            Rise::Rising
+        } else {
+            Rise::Waiting
         }
-        self.is_extended = true;
-        self.work = Work::new(MORE_WORK);
-        self.work.take(cost)
     }
 
     /// One round. Whether another may find a better bound.
@@ -274,7 +292,12 @@ impl Ascent {
         for weight in self.weights.iter_mut() {
             weight.retreat();
         }
-        LEAST_STEP <= self.step
+        let least = if self.first < self.best {
+            LEAST_STEP
+        } else {
+            LEAST_WAITING_STEP
+        };
+        least <= self.step
     }
 
     /// A bound that is hoped for.

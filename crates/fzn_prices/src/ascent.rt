@@ -2,16 +2,14 @@
 use crate::lagrangian::Lagrangian;
 use crate::multiplier::{Multiplier, ONE, PACE, narrowed};
 use fzn_domain::Memory;
-use fzn_multipliers::{Row, Rows, Work};
+use fzn_multipliers::{Budget, Rise, Row, Rows};
 use fzn_relaxation::{Apart, Problem};
 use std::alloc::Global;
 
 const MOST_ROUNDS: usize = 1_500;
 
-/// So many numbers are looked at; and so many more where the bound has risen.
-const FIRST_WORK: u64 = 4_000_000;
-
-const MORE_WORK: u64 = 36_000_000;
+/// So many rounds are made whatever they cost: a bound that rises has mostly begun to by then.
+const LEAST_ROUNDS: u64 = 4;
 
 /// After so many rounds without a better bound the step is made shorter.
 const PATIENCE: usize = 20;
@@ -20,6 +18,9 @@ const PATIENCE: usize = 20;
 const WHOLE_STEP: i64 = 1024;
 
 const LEAST_STEP: i64 = 3;
+
+/// The least share of a step while the bound is not better than what is known without it.
+const LEAST_WAITING_STEP: i64 = 300;
 
 /// A bound has to rise by one part of so many, else it is not worth a row.
 const WORTH: i128 = 200;
@@ -42,14 +43,13 @@ pub struct Ascent {
     /// The sum that they make.
     pub lagrangian: Lagrangian,
     is_refutation: bool,
-    /// What the bound is without rows and prices.
+    /// What is known of the objective without rows and prices.
     first: i128,
     best: i128,
     step: i64,
     /// How many rounds have not bettered the bound.
     stalled: usize,
-    work: Work,
-    is_extended: bool,
+    budget: Budget,
 }
 
 impl Ascent {
@@ -64,8 +64,7 @@ impl Ascent {
             best: 0,
             step: WHOLE_STEP,
             stalled: 0,
-            work: Work::new(FIRST_WORK),
-            is_extended: false,
+            budget: Budget::new(problem.cost(rows), LEAST_ROUNDS),
         };
         ascent.best = ascent.bound(problem, rows, ONE);
         ascent.first = ascent.best.max(problem.declared(ONE));
@@ -91,25 +90,31 @@ impl Ascent {
 
     /// Betters the bound while it can.
     pub fn rise(&mut self, problem: &Problem, rows: &Rows) {
-        let cost = problem.cost(rows);
         for _ in 0..MOST_ROUNDS {
-            if !self.can_work(cost) || !self.goes_on(problem, rows) {
+            if !self.can_work() || !self.goes_on(problem, rows) {
                 return;
             }
         }
     }
 
-    /// Whether so much work may be done.
-    fn can_work(&mut self, cost: usize) -> bool {
-        if self.work.take(cost) {
+    /// Whether there is work for one more round.
+    fn can_work(&mut self) -> bool {
+        if self.budget.take() {
             return true;
         }
-        if self.is_extended || !self.is_worth(self.best, ONE) {
-            return false;
+        let rise = self.risen();
+        self.budget.extend(rise)
+    }
+
+    /// How far the bound has come.
+    fn risen(&self) -> Rise {
+        if self.is_worth(self.best, ONE) {
+            Rise::Worthy
+        } else if self.first < self.best {
+            Rise::Rising
+        } else {
+            Rise::Waiting
         }
-        self.is_extended = true;
-        self.work = Work::new(MORE_WORK);
-        self.work.take(cost)
     }
 
     /// One round. Whether another may find a better bound.
@@ -156,7 +161,12 @@ impl Ascent {
         for multiplier in self.columns.iter_mut() {
             multiplier.retreat();
         }
-        LEAST_STEP <= self.step
+        let least = if self.first < self.best {
+            LEAST_STEP
+        } else {
+            LEAST_WAITING_STEP
+        };
+        least <= self.step
     }
 
     /// A bound that is hoped for.

@@ -17,4 +17,5 @@ mod choosing;
 mod definitions;
 mod lists;
 mod problem;
+mod size;
 mod tables;

@@ -3,6 +3,7 @@ use crate::apart::Aparts;
 use crate::choosing::Chosen;
 use crate::definitions::{Definition, Definitions};
 use crate::lists::Lists;
+use crate::size::{MOST_REFUTED, is_worth_a_look};
 use crate::tables::Tables;
 use fzn_domain::Memory;
 use fzn_meaning::{Constraint, Goal, Model};
@@ -47,9 +48,9 @@ pub struct Problem {
 
 impl Problem {
     /// That of a model, where something moves, and something has prices or is moved by a comparison or a table, or where rows of tables are
-    /// weighed.
+    /// weighed, and where the objective is among what is weighed. Of a model without objective, where that is small.
     pub fn of(alloc: Global, model: &Model, rows: &Rows) -> Result<Option<Problem>, Memory> {
-        if !has_mover(model) {
+        if !has_mover(model) || !is_worth_a_look(model, rows) {
             return Ok(None);
         }
         let objective = objective_of(model);
@@ -64,13 +65,16 @@ impl Problem {
             alloc, model, &bounds, &chosen, &aparts, &moves, target, &mut room,
         )?;
         let lists = Lists::of(alloc, model, &bounds, &aparts, &moves, &tables)?;
-        if tables.all.is_empty() && !is_enough(&moves, &aparts) || !lists.can_all_be() {
+        if tables.all.is_empty() && !is_enough(&moves, &aparts)
+            || !is_weighed(target, &used, &lists)
+            || !lists.can_all_be()
+        {
             return Ok(None);
         }
         let definitions = Definitions::of(alloc, rows, &bounds, target, &lists, &moves, &tables)?;
         let free = free_rows(alloc, rows, &definitions)?;
         let plain = plain_in(alloc, &used, &lists)?;
-        Ok(Some(Problem {
+        let problem = Problem {
             objective,
             free,
             definitions: definitions.all,
@@ -80,13 +84,16 @@ impl Problem {
             lists,
             bounds,
             plain,
-        }))
+        };
+        if objective.is_none() && MOST_REFUTED < problem.cost(rows) {
+            return Ok(None);
+        }
+        Ok(Some(problem))
     }
 
     /// How many numbers are looked at for one bound.
     pub fn cost(&self, rows: &Rows) -> usize {
-        let mut cost = rows.len().saturating_mul(2);
-        cost = cost.saturating_add(rows.rows.len().saturating_mul(8));
+        let mut cost = rows.cost();
         cost = cost.saturating_add(self.plain.len().saturating_mul(2));
         cost = cost.saturating_add(self.lists.len().saturating_mul(2));
         cost = cost.saturating_add(self.tables.cost());
@@ -143,6 +150,16 @@ fn has_mover(model: &Model) -> bool {
         }
     }
     has_element && has_apart
+}
+
+/// Whether there is no objective, or it is a variable of what is weighed: else nothing bounds it.
+fn is_weighed(objective: Option<usize>, used: &[bool], lists: &Lists) -> bool {
+    match objective {
+        None => true,
+        Some(objective) => {
+            used.get(objective).copied() == Some(true) || lists.list_of(objective).is_some()
+        }
+    }
 }
 
 fn objective_of(model: &Model) -> Option<Objective> {
