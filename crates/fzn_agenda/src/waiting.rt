@@ -6,7 +6,7 @@ use crate::queue::{Queue, Slot};
 use crate::watchers::{Watch, Watchers};
 use fzn_domain::Memory;
 use fzn_propagator::{Counting, Event};
-use std::alloc::{AllocError, Global};
+use std::alloc::Global;
 
 /// That a propagator waits for a variable, and is asked after each change that it waits for.
 #[derive(Clone, Copy, Debug)]
@@ -59,11 +59,11 @@ struct Part {
 
 impl Part {
     /// That from here to the end of the list.
-    fn behind<T>(from: usize, list: &Vec<T>) -> Result<Part, Memory> {
-        Ok(Part {
-            from: small(from)?,
-            upto: small(list.len())?,
-        })
+    fn behind<T>(from: usize, list: &Vec<T>) -> Part {
+        Part {
+            from: small(from),
+            upto: small(list.len()),
+        }
     }
 
     #[inline(always)]
@@ -167,11 +167,11 @@ impl Waiting {
             }
         }
         self.spans.push(Span {
-            asked: Part::behind(asked, &self.asked)?,
-            counted: Part::behind(counted, &self.counted)?,
-            low_ends: Part::behind(low_ends, &self.low_ends)?,
-            high_ends: Part::behind(high_ends, &self.high_ends)?,
-            pairs: Part::behind(before, &self.pairs)?,
+            asked: Part::behind(asked, &self.asked),
+            counted: Part::behind(counted, &self.counted),
+            low_ends: Part::behind(low_ends, &self.low_ends),
+            high_ends: Part::behind(high_ends, &self.high_ends),
+            pairs: Part::behind(before, &self.pairs),
         })?;
         Ok(())
     }
@@ -183,7 +183,7 @@ impl Waiting {
             Some(weight) if !watch.is_pair => self.counted.push(Counted {
                 slot,
                 changes,
-                propagator: small(watch.propagator)?,
+                propagator: small(watch.propagator),
                 weight,
             })?,
             _ => self.asked.push(Asked { slot, changes })?,
@@ -276,10 +276,8 @@ fn pairs_of(
     Ok(pairs)
 }
 
-/// The number in 32 bits. `Err` where it has no room there: a list of so many has none in memory.
-fn small(number: usize) -> Result<u32, Memory> {
-    match u32::try_from(number) {
-        Ok(small) => Ok(small),
-        Err(_) => Err(AllocError),
-    }
+/// The number in 32 bits, and the greatest of them for one that has no room there: what stands that far down a list is not woken, and is
+/// asked once all variables are fixed.
+fn small(number: usize) -> u32 {
+    u32::try_from(number).unwrap_or(u32::MAX)
 }
