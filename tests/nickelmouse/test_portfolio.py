@@ -4,6 +4,7 @@ import io
 import os
 import tempfile
 import threading
+import time
 import unittest
 
 from nickelmouse import portfolio
@@ -39,6 +40,9 @@ fi
 rm "$0.$$"
 """
 HEAD = "printf 'fzc 2\\nvars 3 cons 1\\n' >$cert\n"
+# Waits until the plain run has been handed this solution of a neighbourhood.
+HANDED = "until grep -qs 's 1 1 5' $(dirname $cert)/hints; do sleep 0.02; done"
+PATIENCE = 30  # seconds
 
 
 class PortfolioTest(unittest.TestCase):
@@ -77,10 +81,21 @@ esac
         options = {'checking': ['--bound'] if goal == 'minimize' else [], 'keeps': True, **options}
         return Portfolio(Setting(Programs(solve, check), self.files, [], jobs=jobs, **options), Mended(TEXT, False, goal))
 
-    def told(self, run, seconds=None):
-        """The answer of a run, which is cut after so many seconds, and its certificate without its first two lines."""
-        if seconds is not None:
-            threading.Timer(seconds, run.cut).start()
+    def handed(self, solution=b's 1 1 5\n'):
+        """Whether the whole runs have been handed a solution of a neighbourhood."""
+        return os.path.exists(self.files.path('hints')) and solution in self.files.read('hints')
+
+    def cut(self, run, is_time):
+        """Cuts a run as soon as it is time, and in any case after PATIENCE."""
+        end = time.monotonic() + PATIENCE
+        while not is_time() and time.monotonic() < end:
+            time.sleep(0.02)
+        run.cut()
+
+    def told(self, run, is_time=None):
+        """The answer of a run, which is cut where that is said as soon as it is time, and its certificate without its first two lines."""
+        if is_time is not None:
+            threading.Thread(target=self.cut, args=(run, is_time), daemon=True).start()
         with contextlib.redirect_stderr(io.StringIO()) as said:
             run.run()
         self.said = said.getvalue()
@@ -116,12 +131,16 @@ esac
 
     def test_closed_neighbourhoods(self):
         """Neighbourhoods without a solution are closed, while the whole has a better one."""
-        run = self.portfolio("printf 's 1 1 5\\n' >>$cert; sleep 1; printf 's 2 1 3\\ne closed\\n' >>$cert", near="echo e closed >>$cert")
+        near = 'echo >>$0.tried; echo e closed >>$cert'
+        plain = "until [ $(cat $0.tried | wc -l) -gt 8 ]; do sleep 0.02; done 2>$0.waited"
+        run = self.portfolio(f"printf 's 1 1 5\\n' >>$cert; {plain}; printf 's 2 1 3\\ne closed\\n' >>$cert", near=near)
         self.assertEqual(self.told(run), (['s 2 1 3', '=' * 10], ['s 1 1 5', 's 2 1 3', 'e closed']))
         self.assertGreater(sum(run.neighbours[0].trials.values()), 5)
         self.assertEqual(sum(run.neighbours[0].gains.values()), 0)
-        run = self.portfolio("printf 's 1 1 5\\n' >>$cert; exec sleep 60", near="echo e closed >>$cert")
-        self.assertEqual(self.told(run, 0.5), (['s 1 1 5'], ['s 1 1 5', 'e open']))
+        run = self.portfolio("printf 's 1 1 5\\n' >>$cert; exec sleep 60", near=near)
+        tried = self.files.path('solve.tried')
+        os.remove(tried)
+        self.assertEqual(self.told(run, lambda: os.path.exists(tried)), (['s 1 1 5'], ['s 1 1 5', 'e open']))
 
     def test_exhausted(self):
         """Where neighbourhoods are of no more use, a worker makes a whole run in their place."""
@@ -134,26 +153,26 @@ esac
         """At the end of the time the best solution is shown, with the best bound that a whole run has proved; the next ones are handed on."""
         near = "grep -q 'int_le(z,8)' $model && printf 's 1 1 5\\ns 1 1 4\\n' >>$cert; echo e closed >>$cert"
         run = self.portfolio("printf 's 9 9 9\\n' >>$cert; exec sleep 60", "printf 'd 3\\n' >>$cert; exec sleep 60", near)
-        self.assertEqual(self.told(run, 1), (['s 1 1 4'], ['s 1 1 4', 'e open']))
+        self.assertEqual(self.told(run, lambda: self.handed(b's 1 1 4\n')), (['s 1 1 4'], ['s 1 1 4', 'e open']))
         self.assertEqual((run.bound, run.value), (Bound('z', 4, 'at least', 3), 4))
         self.assertEqual(self.files.read('bound.fzc'), b'fzc 2\nvars 3 cons 1\nd 3\ne open\n')
         self.assertEqual(self.files.read('hints'), b's 9 9 9\ns 1 1 4\n')
 
     def test_hints(self):
         """What a neighbourhood has found goes into the certificate of a run that reads it."""
-        plain = "printf 's 9 9 9\\n' >>$cert; sleep 0.6; tail -1 $(dirname $cert)/hints >>$cert; exec sleep 60"
+        plain = f"printf 's 9 9 9\\n' >>$cert; {HANDED}; tail -1 $(dirname $cert)/hints >>$cert; touch $0.read; exec sleep 60"
         run = self.portfolio(plain, near="printf 's 1 1 5\\ne closed\\n' >>$cert")
-        self.assertEqual(self.told(run, 1.2), (['s 1 1 5'], ['s 9 9 9', 's 1 1 5', 'e open']))
+        self.assertEqual(self.told(run, lambda: os.path.exists(self.files.path('solve.read'))), (['s 1 1 5'], ['s 9 9 9', 's 1 1 5', 'e open']))
 
     def test_every_solution(self):
         """Where every solution is printed, each that was better than all before it."""
         run = self.portfolio("printf 's 9 9 9\\n' >>$cert; exec sleep 60", near="printf 's 1 1 5\\ne closed\\n' >>$cert", checking=['-a', '--bound'])
-        self.assertEqual(self.told(run, 1), (['s 9 9 9', 's 1 1 5'], ['s 9 9 9', 's 1 1 5', 'e open']))
+        self.assertEqual(self.told(run, self.handed), (['s 9 9 9', 's 1 1 5'], ['s 9 9 9', 's 1 1 5', 'e open']))
 
     def test_a_wrong_one(self):
         """A solution that is none is not accepted: the best of the whole runs is the answer."""
         run = self.portfolio("printf 's 9 9 9\\n' >>$cert; exec sleep 60", near="printf 's wrong 1 5\\ne closed\\n' >>$cert")
-        self.assertEqual(self.told(run, 1), (['s 9 9 9'], ['s 9 9 9', 'e open']))
+        self.assertEqual(self.told(run, lambda: run.neighbours and not run.neighbours[0].is_alive()), (['s 9 9 9'], ['s 9 9 9', 'e open']))
 
     def test_a_run_dies(self):
         """One that is killed is left out, whichever it is."""
@@ -178,7 +197,7 @@ esac
 
     def test_its_own_limit(self):
         """The plain run's last decision ends all; a better solution of a neighbourhood is shown."""
-        run = self.portfolio("printf 's 9 9 9\\n' >>$cert; sleep 0.8; printf 'e open\\n' >>$cert", near="printf 's 1 1 5\\ne closed\\n' >>$cert")
+        run = self.portfolio(f"printf 's 9 9 9\\n' >>$cert; {HANDED}; printf 'e open\\n' >>$cert", near="printf 's 1 1 5\\ne closed\\n' >>$cert")
         self.assertEqual(self.told(run), (['s 1 1 5'], ['s 1 1 5', 'e open']))
 
     def test_satisfaction(self):
@@ -192,17 +211,19 @@ esac
     def test_satisfaction_left_open(self):
         """At the end of the time the solutions of one run are the answer, those of the plain one where it has as many."""
         plain = "printf 's 1 1 1\\n' >>$cert; exec sleep 60"
-        for other, answer in (("printf 's 2 2 2\\n' >>$cert; exec sleep 60", ['s 1 1 1']),
-                              ("printf 's 2 2 2\\ns 3 3 3\\n' >>$cert; exec sleep 60", ['s 2 2 2', 's 3 3 3'])):
+        found = self.files.path('solve.found')
+        for other, answer in (("printf 's 2 2 2\\n' >>$cert; touch $0.found; exec sleep 60", ['s 1 1 1']),
+                              ("printf 's 2 2 2\\ns 3 3 3\\n' >>$cert; touch $0.found; exec sleep 60", ['s 2 2 2', 's 3 3 3'])):
             run = self.portfolio(plain, other, goal='satisfy', jobs=2, wanted=None, checking=['-a'])
-            self.assertEqual(self.told(run, 0.5)[0], answer)
+            self.assertEqual(self.told(run, lambda: os.path.exists(found))[0], answer)
+            os.remove(found)
 
     def test_shown(self):
         """What is printed as it is found is the plain run's, and the beginning of the answer."""
         shown = io.BytesIO()
         plain = "printf 's 9 9 9\\n' >>$cert; printf 's 9 9 9\\n'; exec sleep 60"
         run = self.portfolio(plain, near="printf 's 1 1 5\\ne closed\\n' >>$cert", shown=shown, checking=['-a', '--bound'])
-        self.assertEqual(self.told(run, 1)[0], ['s 9 9 9', 's 1 1 5'])
+        self.assertEqual(self.told(run, self.handed)[0], ['s 9 9 9', 's 1 1 5'])
         self.assertEqual((shown.getvalue(), run.others), (b's 9 9 9\n', []))
 
 

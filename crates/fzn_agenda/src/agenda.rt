@@ -7,13 +7,13 @@ ghost use Rattle.fzn_domain.specs.Narrow.{AllFixed};
 use crate::changes::Changes;
 use crate::counters::Counters;
 use crate::order::leading_order;
-use crate::queue::Queue;
 use crate::waiting::Waiting;
 use crate::waking::{wake, wake_counted, wake_ends, wake_pairs};
 use crate::watchers::Watchers;
 use fzn_domain::{Domain, Memory, VarId};
 use fzn_meaning::Model;
 use fzn_propagator::{Bounds, Propagator};
+use fzn_queue::Queue;
 use fzn_trail::Trail;
 use std::alloc::Global;
 

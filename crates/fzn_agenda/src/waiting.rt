@@ -2,10 +2,10 @@
 use crate::changes::Changes;
 use crate::known::Known;
 use crate::pairs::{KnownPair, PairEnd};
-use crate::queue::{Queue, Slot};
 use crate::watchers::{Watch, Watchers};
 use fzn_domain::Memory;
 use fzn_propagator::{Counting, Event};
+use fzn_queue::{Queue, Slot};
 use std::alloc::Global;
 
 /// That a propagator waits for a variable, and is asked after each change that it waits for.

@@ -2,9 +2,9 @@
 use crate::changes::Changes;
 use crate::counters::Counters;
 use crate::known::Known;
-use crate::queue::Queue;
 use crate::waiting::{Asked, AskedEnd, AskedPair, Counted};
 use fzn_propagator::{Propagator, Shift};
+use fzn_queue::Queue;
 
 /// Queues those of the list that wait for one of these changes.
 #[inline(always)]

@@ -14,10 +14,20 @@ use fzn_strategy::{Annotation, Parameters};
 use fzn_trail::Trail;
 use std::alloc::Global;
 
+/// Who decides.
+#[derive(Clone, Copy)]
+enum Turn {
+    Annotated,
+    Weighted,
+    Active,
+}
+
 /// The order of the annotations, and beside it what conflicts told of the variables that stand in none.
 #[derive(Drop)]
 pub struct Guide {
     order: Order,
+    /// The same variables by their weights, where activity decides every variable and no solution was found.
+    weighted: Option<Order>,
     /// By variable: the least and the greatest declared value.
     bounds: Vec<(i64, i64)>,
     /// By variable: the value that it had last, where activity decides it, but for those under a probe.
@@ -55,13 +65,30 @@ impl Guide {
     ) -> Result<Guide, Memory> {
         let vars = model.vars.as_slice();
         let mut ties = Ties::new(choice.seed);
-        let order = Order::new(alloc, vars.len(), annotations, &mut ties)?;
-        let activity = by_rank(alloc, vars.len(), &order, &mut ties)?;
+        // Whoever searches freely looks for some solution first, and for a good one then.
+        let left_out = if choice.free {
+            objective_of(model.goal)
+        } else {
+            None
+        };
+        let order = Order::new(alloc, vars.len(), annotations, left_out, &mut ties)?;
+        let weighted = if choice.free {
+            let order = Order::by_weight(alloc, model, annotations, left_out, &mut ties)?;
+            Some(order)
+        } else {
+            None
+        };
+        let first = match &weighted {
+            Some(weighted) if !order.has_seats() => weighted,
+            _ => &order,
+        };
+        let activity = by_rank(alloc, vars.len(), first, &mut ties)?;
         let parameters = choice.parameters;
         let bounds = bounds_of(alloc, vars)?;
         let comparisons = Comparisons::new(alloc, bounds.as_slice())?;
         Ok(Guide {
             order,
+            weighted,
             bounds,
             last_values: vec![in alloc; None; vars.len()]?,
             found_values: vec![in alloc; None; vars.len()]?,
@@ -123,17 +150,40 @@ impl Guide {
         }
     }
 
-    /// What the annotations want, where it is for them to decide; of a variable that is known to cost something the cheapest value. Where
-    /// activity decides every variable, that is until a solution is found, and in some periods between restarts, the first of all included.
+    /// What the annotations want, where it is for them to decide, or the order by weights; of a variable that is known to cost something the
+    /// cheapest value. Where activity decides every variable, that is until a solution is found, and in some periods between restarts, the
+    /// first of all included.
     fn annotated(&mut self, trail: &Trail, vars: usize) -> Option<Lit>
         requires { vars ≡ length trail.now.declared }
     {
-        if self.free && (self.has_solution || !self.is_turn(self.parameters.annotation_turns)) {
-            return None;
-        }
-        let lit = self.order.next(trail, vars)?;
+        let lit = match self.turn() {
+            Turn::Annotated => self.order.next(trail, vars)?,
+            Turn::Weighted => self.weighted.as_mut()?.next(trail, vars)?,
+            Turn::Active => return None,
+        };
         let cheapest = self.cheapest(trail, vars, lit.var.0.saturating_sub(1));
         Some(cheapest.unwrap_or(lit))
+    }
+
+    /// Who decides in this period between restarts: without a solution the annotations in one of so many, the order by weights in the one
+    /// behind it, or in its place where there are no annotations, and activity in the others; behind a solution activity alone.
+    fn turn(&self) -> Turn {
+        if !self.free {
+            return Turn::Annotated;
+        }
+        if self.has_solution {
+            return Turn::Active;
+        }
+        let first = if self.order.has_seats() {
+            Turn::Annotated
+        } else {
+            Turn::Weighted
+        };
+        match self.restarted % self.parameters.annotation_turns.max(1) {
+            0 => first,
+            1 if self.order.has_seats() => Turn::Weighted,
+            _ => Turn::Active,
+        }
     }
 
     /// The variable of this number, counted from 0, takes its cheapest value, where no solution was found yet and it is known to cost
@@ -198,15 +248,21 @@ impl Guide {
 
     /// Whether activity decides the variable of this number, counted from 0.
     fn is_by_activity(&self, number: usize) -> bool {
-        self.free || !self.order.is_annotated(number)
+        self.free || !self.order.is_seated(number)
     }
 
     /// The entries from this place on will be dropped. A variable that has one value now came to it by one of them.
     pub fn undo(&mut self, trail: &Trail, from: usize) {
         self.order.undo(from);
+        if let Some(weighted) = &mut self.weighted {
+            weighted.undo(from);
+        }
         for place in from..trail.len() {
             let number = trail.entry(place).lit.var.0.saturating_sub(1);
             self.order.set_free(number);
+            if let Some(weighted) = &mut self.weighted {
+                weighted.set_free(number);
+            }
             if self.is_by_activity(number) {
                 if !self.probes.is_assumed()
                     && let Some(value) = value_of(trail, number)
@@ -224,6 +280,7 @@ impl Guide {
         requires { vars ≡ length trail.now.declared }
     {
         self.has_solution = true;
+        self.weighted = None;
         self.probes.found();
         if !self.free {
             return;
@@ -249,6 +306,9 @@ impl Guide {
             if self.is_by_activity(number) {
                 if let Some((least, greatest)) = self.bounds.get(number).copied() {
                     self.activity.bump(number);
+                    if let Some(weighted) = &mut self.weighted {
+                        weighted.bump(number);
+                    }
                     self.comparisons
                         .bump(comparison_of(*lit, least, greatest), &mut self.ties)?;
                 }
@@ -274,6 +334,14 @@ impl Guide {
         self.restarted = self.restarted.saturating_add(1);
         self.probes.restart();
         true
+    }
+}
+
+/// The variable that is minimised or maximised.
+fn objective_of(goal: Goal) -> Option<VarId> {
+    match goal {
+        Goal::Satisfy => None,
+        Goal::Minimize(var) | Goal::Maximize(var) => Some(var),
     }
 }
 

@@ -1,32 +1,17 @@
-// The order of the annotations.
+// The order of the annotations, and that by weights.
 ghost use Rattle.std.specs.Prelude.{◌≡◌, length};
 
+use crate::group::{Group, Ranking};
 use crate::ranks::Ranks;
-use fzn_activity::{Heap, Pool, Ties, open_domain};
-use fzn_domain::{Domain, Lit, Memory, VarId};
-use fzn_strategy::{Annotation, ValueChoice, VarChoice};
+use crate::seating::{Seat, Seating};
+use fzn_activity::{Pool, Ties, open_domain};
+use fzn_domain::{Lit, Memory, VarId};
+use fzn_meaning::Model;
+use fzn_strategy::{Annotation, ValueChoice};
 use fzn_trail::Trail;
 use std::alloc::Global;
 
-/// Where a variable stands: in which annotation, and at which place of its variables.
-#[derive(Clone, Copy)]
-struct Seat {
-    group: usize,
-    place: usize,
-}
-
-/// The variables of an annotation that stand in none before it.
-#[derive(Drop)]
-struct Group {
-    /// By place: the variable, counted from 0.
-    members: Vec<usize>,
-    /// The places whose variables had more than one value when last looked at, by the choice. Not kept where the order decides.
-    open: Heap,
-    var_choice: VarChoice,
-    value_choice: ValueChoice,
-}
-
-/// All variables, those of the annotations first and the others in the order of their numbers.
+/// All variables, those of the groups first and the others in the order of their numbers.
 #[derive(Drop)]
 pub struct Order {
     /// Those that may have more than one value.
@@ -41,40 +26,65 @@ pub struct Order {
 }
 
 impl Order {
+    /// The order of the annotations, of which this variable is left out, if there is one.
     pub fn new(
         alloc: Global,
         vars: usize,
         annotations: &[Annotation],
+        left_out: Option<VarId>,
         ties: &mut Ties,
     ) -> Result<Order, Memory> {
-        let mut seats = vec![in alloc; None; vars]?;
-        let mut ranks = vec![in alloc; None; vars]?;
+        let mut seating = Seating::new(alloc, vars, left_out)?;
         let mut groups = Vec::new(alloc);
-        let mut rank: usize = 0;
         for annotation in annotations {
-            let mut group = Group::new(alloc, annotation);
-            for var in annotation.vars.as_slice() {
-                let number = var.0.saturating_sub(1);
-                if number < seats.len() && number < ranks.len() && seats[number].is_none() {
-                    let place = group.add(number, ties)?;
-                    seats[number] = Some(Seat {
-                        group: groups.len(),
-                        place,
-                    });
-                    ranks[number] = Some(rank);
-                    rank = rank.saturating_add(1);
-                }
-            }
+            let mut group = Group::new(alloc, Ranking::Chosen(annotation.var_choice));
+            seating.add_annotated(&mut group, groups.len(), annotation, ties)?;
             groups.push(group)?;
         }
-        let open = ranked(alloc, &ranks, rank)?;
+        Order::of(alloc, seating, groups)
+    }
+
+    /// The variables of the annotations by their weights, or where there is none those of the output, whose least values are tried first;
+    /// this one is left out, if there is one.
+    pub fn by_weight(
+        alloc: Global,
+        model: &Model,
+        annotations: &[Annotation],
+        left_out: Option<VarId>,
+        ties: &mut Ties,
+    ) -> Result<Order, Memory> {
+        let mut seating = Seating::new(alloc, model.vars.len(), left_out)?;
+        let mut group = Group::new(alloc, Ranking::Weighted);
+        for annotation in annotations {
+            seating.add_annotated(&mut group, 0, annotation, ties)?;
+        }
+        if group.is_empty() {
+            let outputs = model.outputs.as_slice();
+            seating.add_all(&mut group, 0, outputs, ValueChoice::Min, ties)?;
+        }
+        let mut groups = Vec::new(alloc);
+        groups.push(group)?;
+        Order::of(alloc, seating, groups)
+    }
+
+    fn of(alloc: Global, seating: Seating, groups: Vec<Group>) -> Result<Order, Memory> {
         Ok(Order {
-            open,
+            open: ranked(alloc, &seating.ranks, seating.count)?,
             groups,
-            seats,
+            changed: all_in(alloc, seating.seats.len())?,
+            seats: seating.seats,
             noted: 0,
-            changed: all_in(alloc, vars)?,
         })
+    }
+
+    /// Whether some variable stands in a group.
+    pub fn has_seats(&self) -> bool {
+        for group in self.groups.as_slice() {
+            if !group.is_empty() {
+                return true;
+            }
+        }
+        false
     }
 
     /// The first variable with more than one value, counted from 0.
@@ -91,18 +101,20 @@ impl Order {
         None
     }
 
-    /// What the first annotation with a variable to decide wants, if one has such a variable.
+    /// What the first group with a variable to decide wants, if one has such a variable.
     pub fn next(&mut self, trail: &Trail, vars: usize) -> Option<Lit>
         requires { vars ≡ length trail.now.declared }
     {
         let first = self.first_open(trail, vars)?;
         let seat = self.seats.get(first).copied().flatten()?;
         self.look(trail, vars);
-        self.groups.get_mut(seat.group)?.next(trail, vars, first)
+        self.groups
+            .get_mut(seat.group)?
+            .next(trail, vars, seat.place)
     }
 
-    /// Whether the variable of this number, counted from 0, stands in an annotation.
-    pub fn is_annotated(&self, number: usize) -> bool {
+    /// Whether the variable of this number, counted from 0, stands in a group.
+    pub fn is_seated(&self, number: usize) -> bool {
         self.seats.get(number).copied().flatten().is_some()
     }
 
@@ -128,10 +140,17 @@ impl Order {
     {
         if let Some(seat) = self.seats.get(number).copied().flatten() {
             if let Some(group) = self.groups.get_mut(seat.group) {
-                match group.var_choice {
-                    VarChoice::InputOrder => {}
-                    _ => group.look(trail, vars, number, seat.place),
-                }
+                group.look(trail, vars, seat.place);
+            }
+        }
+    }
+
+    /// The present conflict rests on the variable of this number, counted from 0.
+    pub fn bump(&mut self, number: usize) {
+        if let Some(seat) = self.seats.get(number).copied().flatten() {
+            if let Some(group) = self.groups.get_mut(seat.group) {
+                group.bump(seat.place);
+                let _ = self.changed.put(number);
             }
         }
     }
@@ -175,71 +194,3 @@ fn ranked(alloc: Global, given: &[Option<usize>], count: usize) -> Result<Ranks,
     }
     Ranks::new(alloc, ranks, count.saturating_add(given.len()))
 }
-
-impl Group {
-    fn new(alloc: Global, annotation: &Annotation) -> Group {
-        Group {
-            members: Vec::new(alloc),
-            open: Heap::new(alloc),
-            var_choice: annotation.var_choice,
-            value_choice: annotation.value_choice,
-        }
-    }
-
-    fn add(&mut self, number: usize, ties: &mut Ties) -> Result<usize, Memory> {
-        let tie = ties.tie(self.members.len() as u64);
-        self.members.push(number)?;
-        self.open.grow(tie)
-    }
-
-    /// The literal for the chosen variable, where this one is the first with more than one value.
-    fn next(&mut self, trail: &Trail, vars: usize, first: usize) -> Option<Lit>
-        requires { vars ≡ length trail.now.declared }
-    {
-        let number = match self.var_choice {
-            VarChoice::InputOrder => first,
-            _ => self.best()?,
-        };
-        let domain = open_domain(trail, vars, number)?;
-        if domain.is_empty() {
-            return None;
-        }
-        let var = VarId(number.saturating_add(1));
-        Some(self.value_choice.literal(var, domain))
-    }
-
-    /// The variable that the choice prefers, counted from 0.
-    fn best(&self) -> Option<usize> {
-        let place = self.open.top()?;
-        self.members.get(place).copied()
-    }
-
-    /// The values of the variable of this number, which stands at this place, may have changed.
-    fn look(&mut self, trail: &Trail, vars: usize, number: usize, place: usize)
-        requires { vars ≡ length trail.now.declared }
-    {
-        match open_domain(trail, vars, number) {
-            Some(domain) => self.open.set(place, preference(domain, self.var_choice)),
-            None => self.open.remove(place),
-        }
-    }
-}
-
-/// How much the choice prefers a variable with these values. Each is a whole number that a float holds exactly.
-fn preference(domain: &Domain, var_choice: VarChoice) -> f64 {
-    if domain.is_empty() {
-        return 0.0;
-    }
-    let width = domain.len().min(WIDEST) as i64;
-    let whole = match var_choice {
-        VarChoice::InputOrder => 0,
-        VarChoice::FirstFail => -width,
-        VarChoice::AntiFirstFail => width,
-        VarChoice::Smallest => -domain.min(),
-        VarChoice::Largest => domain.max(),
-    };
-    whole as f64
-}
-
-/// No domain has more values.
-const WIDEST: usize = 2_000_000_001;

@@ -14,7 +14,8 @@ pub struct Parameters {
     pub restart_growth: u64,
     /// How many learned clauses a restart keeps, in hundredths of what the options say: 0 to 10^6.
     pub kept_at_restart: u64,
-    /// In a free search that has no solution one in so many periods between restarts is the annotations': 1 to 10^6 (*Learning*).
+    /// In a free search that has no solution one in so many periods between restarts is the annotations', and the next one, where it is not
+    /// theirs too, that of the order by weights: 1 to 10^6 (*Learning*, *Weights*).
     pub annotation_turns: u64,
     /// In a free search one in so many periods between restarts suggests the values of the last solution: 1 to 10^6 (*Learning*).
     pub solution_turns: u64,

@@ -1,5 +1,5 @@
 -- The places and the rows of a pass on its trail, and what it finds.
-use Rattle.std.specs.Prelude.{Bool, ℕ, ℤ, List, length}
+use Rattle.std.specs.Prelude.{Bool, ℕ, ◌<◌, ℤ, List, length}
 use Rattle.fzn_domain.specs.declared.literal.Lit.{Lit}
 use Rattle.fzn_domain.specs.declared.literal.Op.{Op}
 use Rattle.fzn_domain.specs.IntSet.{IntSet}
@@ -10,6 +10,7 @@ use Rattle.fzn_sets.specs.Terms.{MayBe}
 use Rattle.fzn_rules.specs.GlobalRows.{IsRowOut}
 use Rattle.fzn_rules.specs.declared.rule.Rule.TheVariants.{Rows}
 use Rattle.fzn_propagator.specs.Clause.{IsJustified}
+use Rattle.fzn_propagator.specs.Left.{IsLeft}
 use Rattle.fzn_propagator.specs.Inference.{Inference, AreFoundOf}
 use Rattle.fzn_terms.specs.Values.{place_at}
 use Rattle.fzn_table.specs.declared.pass.Pass.{Pass}
@@ -50,6 +51,14 @@ HasSupport pass p value = IsSupported pass.trail.now.sets pass.places.now (numbe
 -- some row that is open has a value there that stands so to the bound
 abbrev pub IsClaimSupported : Pass → ℕ → Op → ℤ → Type 0
 IsClaimSupported pass p op bound = HasSupportThat pass.trail.now.sets pass.places.now (numbers_in pass.rows.now) p op bound
+
+-- on sets that the clause leaves, the place has not the row's value
+abbrev pub IsSaidAt : Pass → List Lit → ℕ → ℕ → Type 0
+IsSaidAt pass clause r k = (k < length pass.places.now) × (IsLeft pass.trail.now.declared clause (place_at pass.places.now k) (number_in_row pass r k) → ⊥)
+
+-- so it is of some place
+abbrev pub IsRowSaid : Pass → List Lit → ℕ → Type 0
+IsRowSaid pass clause r = (k : ℕ) × IsSaidAt pass clause r k
 
 -- the rule `rows` justifies the clause from the table
 abbrev pub IsJustifiedByTable : Pass → List Lit → Type 0

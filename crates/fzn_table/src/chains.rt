@@ -69,6 +69,11 @@ impl Chains {
         true
     }
 
+    /// The numbers that some row has there, rising.
+    pub(crate) fn numbers(&self) -> &[i64] {
+        self.numbers.as_slice()
+    }
+
     /// A row before which none has the number: the first that has it, where one does.
     pub(crate) fn first(&self, number: &i64) -> usize
         ensures { (places : List Term) (rows : List ℤ) (p : ℕ) → IsChainedAt places rows p self.now → (r : ℕ) → r < result → IsWhole places rows r → number_at places rows r p ≢ number.now }
@@ -95,11 +100,48 @@ impl Chains {
     }
 }
 
-/// These numbers, each once, rising.
+/// These numbers, each once, rising: told by marks where they lie close together, else sorted.
 fn distinct(alloc: Global, column: &[i64]) -> Result<Vec<i64>, Memory> {
+    let (low, span) = spread(column);
+    if span / 4 <= column.len() {
+        return marked(alloc, column, low, span);
+    }
     let mut numbers = Vec::from_slice(alloc, column)?;
     numbers.sort()?;
     numbers.dedup();
+    Ok(numbers)
+}
+
+/// The least of these numbers, and how many numbers there are from it to the greatest.
+fn spread(column: &[i64]) -> (i64, usize) {
+    let mut low = i64::MAX;
+    let mut high = i64::MIN;
+    for number in column {
+        low = low.min(*number);
+        high = high.max(*number);
+    }
+    let span = high.saturating_sub(low).saturating_add(1);
+    (low, usize::try_from(span).unwrap_or(0))
+}
+
+/// These numbers, each once, rising, where they are among so many from the least on.
+fn marked(alloc: Global, column: &[i64], low: i64, span: usize) -> Result<Vec<i64>, Memory> {
+    let mut marks = Vec::from_elem(alloc, false, span)?;
+    for number in column {
+        if let Ok(k) = usize::try_from(number.saturating_sub(low))
+            && k < marks.len()
+        {
+            marks[k] = true;
+        }
+    }
+    let mut numbers = Vec::new(alloc);
+    let mut number = low;
+    for k in 0..marks.len() {
+        if marks[k] {
+            numbers.push(number)?;
+        }
+        number = number.saturating_add(1);
+    }
     Ok(numbers)
 }
 

@@ -17,6 +17,7 @@ mod chains;
 mod constraint;
 mod pass;
 mod propagator;
+mod said;
 mod supports;
 mod table;
 mod words;

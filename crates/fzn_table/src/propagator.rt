@@ -99,7 +99,7 @@ impl Propagator for TablePropagator {
     {
         let places = self.places.as_slice();
         let rows = self.rows.constants();
-        let possible = self.supports.possible(alloc, trail, places)?;
+        let possible = self.supports.possible(alloc, trail, places, rows)?;
         let pass = Pass {
             alloc,
             number: self.number,

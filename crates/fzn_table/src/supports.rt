@@ -9,18 +9,10 @@ ghost use Rattle.fzn_table.specs.Supports.{number_at, IsWhole};
 use crate::chains::Chains;
 use crate::words::first_common;
 use fzn_domain::{Memory, Op};
-use fzn_terms::{Interval, may_be};
+use fzn_terms::{Interval, may_be, next_value};
 use fzn_trail::Trail;
 use fzn_values::Term;
 use std::alloc::Global;
-
-/// A number of the table, where it stands.
-#[derive(Clone, Copy, Debug)]
-struct Number {
-    place: usize,
-    value: i64,
-    row: usize,
-}
 
 /// A value that some row has at the place.
 #[derive(Clone, Copy, Debug)]
@@ -39,13 +31,16 @@ enum RowSet {
     Listed { start: usize, end: usize },
 }
 
-/// So many entries are gone over one by one for the next value of a place, before the rows that are possible are.
+/// So many entries are few. Where a place has more, the rows that are possible are told by the other places first; and for its next value
+/// so many entries are gone over one by one, before those rows are.
 const FEW_ENTRIES: usize = 64;
 
 /// The values of each place, and the rows that have each. Which rows these are is open but for the chains: each is looked at again before it
 /// counts.
 #[derive(Debug, Drop)]
 pub(crate) struct Supports {
+    /// How many rows there are.
+    count: usize,
     /// How many words a set of bits takes.
     width: usize,
     /// By their places, and those of one place by their values.
@@ -65,54 +60,58 @@ impl Supports {
     pub(crate) fn new(alloc: Global, places: &[Term], rows: &[Term]) -> Result<Supports, Memory>
         ensures { IfOk result (λ supports. AreAllChained places.now (numbers_in rows.now) supports.chains.items) }
     {
-        let mut supports = Supports::without_chains(alloc, places.len(), rows)?;
-        supports.chains = chains_of(alloc, places, rows)?;
+        let chains = chains_of(alloc, places, rows)?;
+        let count = rows.len().checked_div(places.len()).unwrap_or(0);
+        let mut supports = Supports::without_chains(alloc, chains.as_slice(), count)?;
+        supports.chains = chains;
         Ok(supports)
     }
 
-    /// The same, where the rows are not linked yet.
-    fn without_chains(alloc: Global, places: usize, rows: &[Term]) -> Result<Supports, Memory> {
-        let mut numbers = numbers_of(alloc, places, rows)?;
-        numbers.sort_by_key(|number| (number.place, number.value))?;
+    /// The same, where the rows of each entry are found by these chains, which are not kept.
+    fn without_chains(alloc: Global, chains: &[Chains], count: usize) -> Result<Supports, Memory> {
         let mut supports = Supports {
-            width: rows.len().checked_div(places).unwrap_or(0) / 64 + 1,
+            count,
+            width: count / 64 + 1,
             entries: Vec::new(alloc),
-            starts: Vec::new(alloc),
+            starts: Vec::with_capacity(alloc, chains.len())?,
             words: Vec::new(alloc),
             listed: Vec::new(alloc),
             chains: Vec::new(alloc),
         };
-        for alike in numbers.chunk_by(|a, b| a.place == b.place && a.value == b.value) {
-            supports.add_entry(alike)?;
+        for place in 0..chains.len() {
+            supports.starts.push(supports.entries.len())?;
+            supports.add_entries(place, &chains[place])?;
         }
         Ok(supports)
     }
 
-    /// Adds the entry of these numbers, which are one value of one place.
-    fn add_entry(&mut self, alike: &[Number]) -> Result<(), Memory> {
-        let Some(first) = alike.first() else {
-            return Ok(());
-        };
-        if self.starts.len() <= first.place {
-            self.starts.push(self.entries.len())?;
+    /// Adds an entry for each value that some row has at the place.
+    fn add_entries(&mut self, place: usize, chains: &Chains) -> Result<(), Memory> {
+        for value in chains.numbers() {
+            let rows = self.add_rows_of(chains, value)?;
+            self.entries.push(Entry {
+                place,
+                value: *value,
+                rows,
+            })?;
         }
-        let rows = if alike.len() < self.width {
-            self.add_listed(alike)?
-        } else {
-            self.add_bits(alike)?
-        };
-        self.entries.push(Entry {
-            place: first.place,
-            value: first.value,
-            rows,
-        })?;
         Ok(())
     }
 
-    fn add_listed(&mut self, alike: &[Number]) -> Result<RowSet, Memory> {
+    /// Adds the rows that have the value: lists them, and where they are many, makes them a set of bits.
+    fn add_rows_of(&mut self, chains: &Chains, value: &i64) -> Result<RowSet, Memory> {
         let start = self.listed.len();
-        for number in alike {
-            self.listed.push(number.row)?;
+        let mut row = chains.first(value);
+        for _ in 1..self.width {
+            if row >= self.count {
+                break;
+            }
+            self.listed.push(row)?;
+            row = chains.next(row);
+        }
+        if row < self.count {
+            self.listed.truncate(start);
+            return self.add_bits(chains, value);
         }
         Ok(RowSet::Listed {
             start,
@@ -120,10 +119,10 @@ impl Supports {
         })
     }
 
-    fn add_bits(&mut self, alike: &[Number]) -> Result<RowSet, Memory> {
+    fn add_bits(&mut self, chains: &Chains, value: &i64) -> Result<RowSet, Memory> {
         let start = self.words.len();
         self.words.resize(start.saturating_add(self.width), 0)?;
-        set_bits(&mut self.words[start..], alike);
+        set_rows(&mut self.words[start..], chains, value, self.count);
         Ok(RowSet::Bits { start })
     }
 
@@ -151,9 +150,9 @@ impl Supports {
         }
     }
 
-    /// No fewer than there are rows.
+    /// How many rows there are.
     pub fn rows(&self) -> usize {
-        self.width.saturating_mul(64)
+        self.count
     }
 
     /// How many entries come before that of the value at the place.
@@ -194,41 +193,136 @@ impl Supports {
         alloc: Global,
         trail: &Trail,
         places: &[Term],
+        rows: &[Term],
     ) -> Result<Vec<u64>, Memory>
         requires { All (IsTerm (length trail.now.declared)) places.now }
     {
         let mut possible = vec![in alloc; u64::MAX; self.width]?;
+        if let Some(last) = possible.last_mut() {
+            *last = (1 << (self.count % 64)) - 1;
+        }
         let mut here = vec![in alloc; 0u64; self.width]?;
-        let mut entry = 0;
-        for place in 0..places.len() {
-            here.fill(0);
-            entry = self.add_place(trail, places[place], place, entry, &mut here);
-            keep_common(&mut possible, here.as_slice());
+        for are_few in [true, false] {
+            for place in 0..places.len() {
+                if self.has_few_entries(place) == are_few {
+                    self.keep_possible(trail, places[place], place, rows, &mut possible, &mut here);
+                }
+            }
         }
         Ok(possible)
     }
 
-    /// Adds the rows of each entry of the place, from one entry on, whose value the term may have. The first entry behind them.
-    fn add_place(
+    /// Where the entries of the place begin and end.
+    fn entries_at(&self, place: usize) -> (usize, usize) {
+        let end = self.entries.len();
+        let start = *self.starts.get(place).unwrap_or(&end);
+        let next = *self.starts.get(place.saturating_add(1)).unwrap_or(&end);
+        (start, next)
+    }
+
+    fn has_few_entries(&self, place: usize) -> bool {
+        let (start, end) = self.entries_at(place);
+        end.saturating_sub(start) <= FEW_ENTRIES
+    }
+
+    /// Keeps those of the possible rows whose value at the place the term may have. Asked is whichever is least: these rows, the values of
+    /// the term, or the entries of the place.
+    fn keep_possible(
         &self,
         trail: &Trail,
         term: Term,
         place: usize,
-        from: usize,
+        rows: &[Term],
+        possible: &mut [u64],
         here: &mut [u64],
-    ) -> usize
+    )
         requires { IsTerm (length trail.now.declared) term }
     {
-        for k in from..self.entries.len() {
-            let entry = self.entries[k];
-            if entry.place != place {
-                return k;
-            }
-            if may_be(trail, term, &entry.value) {
-                self.add_rows(entry.rows, here);
+        let (start, end) = self.entries_at(place);
+        let values = value_count(trail, term);
+        let entries = end.saturating_sub(start);
+        if is_fewer(possible, values.min(entries)) {
+            self.keep_rows(trail, term, place, rows, possible);
+        } else if values < entries / 2 {
+            here.fill(0);
+            self.add_values(trail, term, place, values, here);
+            keep_common(possible, here);
+        } else {
+            self.keep_entries(trail, term, start, end, possible);
+        }
+    }
+
+    /// The same, where each of these rows is asked.
+    fn keep_rows(
+        &self,
+        trail: &Trail,
+        term: Term,
+        place: usize,
+        rows: &[Term],
+        possible: &mut [u64],
+    )
+        requires { IsTerm (length trail.now.declared) term }
+    {
+        for q in 0..possible.len() {
+            let mut bits = possible[q];
+            for _ in 0..64 {
+                if bits == 0 {
+                    break;
+                }
+                let bit = bits.trailing_zeros();
+                bits &= bits - 1;
+                let row = q.saturating_mul(64).saturating_add(bit as usize);
+                let is_kept = match self.number_of(rows, row, place) {
+                    Some(value) => may_be(trail, term, &value),
+                    None => false,
+                };
+                if !is_kept {
+                    possible[q] &= !(1 << bit);
+                }
             }
         }
-        self.entries.len()
+    }
+
+    /// Adds the rows that have a value of the term at the place, of which there are so many.
+    fn add_values(&self, trail: &Trail, term: Term, place: usize, values: usize, here: &mut [u64])
+        requires { IsTerm (length trail.now.declared) term }
+    {
+        let mut last = i64::MIN;
+        for _ in 0..values {
+            let Some(value) = next_value(trail, term, &last) else {
+                return;
+            };
+            if let Some(entry) = self.entry_of(place, value) {
+                self.add_rows(entry.rows, here);
+            }
+            last = value;
+        }
+    }
+
+    /// Takes out the rows of each of these entries whose value the term may not have.
+    fn keep_entries(
+        &self,
+        trail: &Trail,
+        term: Term,
+        start: usize,
+        end: usize,
+        possible: &mut [u64],
+    )
+        requires { IsTerm (length trail.now.declared) term }
+    {
+        for k in start..end {
+            if let Some(entry) = self.entries.get(k)
+                && !may_be(trail, term, &entry.value)
+            {
+                self.remove_rows(entry.rows, possible);
+            }
+        }
+    }
+
+    /// The number of the row at the place.
+    fn number_of(&self, rows: &[Term], row: usize, place: usize) -> Option<i64> {
+        let at = row.saturating_mul(self.starts.len()).saturating_add(place);
+        Some(rows.get(at)?.number())
     }
 
     /// Adds these rows.
@@ -243,6 +337,24 @@ impl Supports {
                 if let Some(listed) = self.listed.get(start..end) {
                     for row in listed {
                         set_bit(here, *row);
+                    }
+                }
+            }
+        }
+    }
+
+    /// Takes these rows out.
+    fn remove_rows(&self, rows: RowSet, here: &mut [u64]) {
+        match rows {
+            RowSet::Bits { start } => {
+                if let Some(words) = self.bits_from(start) {
+                    remove_all(here, words);
+                }
+            }
+            RowSet::Listed { start, end } => {
+                if let Some(listed) = self.listed.get(start..end) {
+                    for row in listed {
+                        clear_bit(here, *row);
                     }
                 }
             }
@@ -305,6 +417,15 @@ impl Supports {
         self.nearest_possible(possible, rows, place, ends, Op::AtLeast, before)
     }
 
+    /// Of the numbers that some row has at the place, the nearest beyond an end: the greatest that is less, or the least that is greater.
+    pub fn nearest_beyond(&self, place: usize, op: Op, end: i64) -> Option<i64> {
+        let index = match op {
+            Op::AtMost => self.before(place, end).wrapping_sub(1),
+            _ => self.before(place, end.saturating_add(1)),
+        };
+        Some(self.entry_at(index, place)?.value)
+    }
+
     /// The entry at this index, where it is one of the place.
     #[inline(always)]
     fn entry_at(&self, index: usize, place: usize) -> Option<Entry> {
@@ -338,9 +459,7 @@ impl Supports {
                     .saturating_mul(64)
                     .saturating_add(bits.trailing_zeros() as usize);
                 bits &= bits - 1;
-                let at = row.saturating_mul(self.starts.len()).saturating_add(place);
-                if let Some(term) = rows.get(at) {
-                    let value = term.number();
+                if let Some(value) = self.number_of(rows, row, place) {
                     if ends.low <= value && value <= ends.high && op.compares(value, nearest) {
                         nearest = value;
                     }
@@ -385,21 +504,6 @@ fn column(alloc: Global, places: &[Term], rows: &[Term], p: usize) -> Result<Vec
     Ok(column)
 }
 
-/// The numbers of these rows, row by row.
-fn numbers_of(alloc: Global, places: usize, rows: &[Term]) -> Result<Vec<Number>, Memory> {
-    let mut numbers = Vec::new(alloc);
-    for i in 0..rows.len() {
-        if places != 0 {
-            numbers.push(Number {
-                place: i % places,
-                value: rows[i].number(),
-                row: i / places,
-            })?;
-        }
-    }
-    Ok(numbers)
-}
-
 /// The first of the listed rows that is among these.
 fn first_listed(words: &[u64], listed: &[usize]) -> Option<usize> {
     for row in listed {
@@ -414,10 +518,37 @@ fn has_bit(words: &[u64], row: usize) -> bool {
     row / 64 < words.len() && (words[row / 64] >> (row % 64)) & 1 == 1
 }
 
-/// Sets the bits of their rows.
-fn set_bits(words: &mut [u64], alike: &[Number]) {
-    for number in alike {
-        set_bit(words, number.row);
+/// How many values the term has.
+fn value_count(trail: &Trail, term: Term) -> usize
+    requires { IsTerm (length trail.now.declared) term }
+{
+    match term {
+        Term::Constant(_) => 1,
+        Term::Variable(var) => trail.domain(var).len(),
+    }
+}
+
+/// Whether fewer bits are set than so many.
+fn is_fewer(words: &[u64], count: usize) -> bool {
+    let mut set: usize = 0;
+    for word in words {
+        if set >= count {
+            return false;
+        }
+        set = set.saturating_add(word.count_ones() as usize);
+    }
+    set < count
+}
+
+/// Sets the bits of the rows that have the value, of so many rows.
+fn set_rows(words: &mut [u64], chains: &Chains, value: &i64, count: usize) {
+    let mut row = chains.first(value);
+    for _ in 0..count {
+        if row >= count {
+            break;
+        }
+        set_bit(words, row);
+        row = chains.next(row);
     }
 }
 
@@ -427,20 +558,29 @@ fn set_bit(words: &mut [u64], row: usize) {
     }
 }
 
+fn clear_bit(words: &mut [u64], row: usize) {
+    if row / 64 < words.len() {
+        words[row / 64] &= !(1 << (row % 64));
+    }
+}
+
 /// Adds the others' bits.
 fn add_all(words: &mut [u64], others: &[u64]) {
-    for i in 0..words.len() {
-        if i < others.len() {
-            words[i] |= others[i];
-        }
+    for i in 0..words.len().min(others.len()) {
+        words[i] |= others[i];
+    }
+}
+
+/// Takes the others' bits out.
+fn remove_all(words: &mut [u64], others: &[u64]) {
+    for i in 0..words.len().min(others.len()) {
+        words[i] &= !others[i];
     }
 }
 
 /// Keeps the bits that the others have too.
 fn keep_common(words: &mut [u64], others: &[u64]) {
-    for i in 0..words.len() {
-        if i < others.len() {
-            words[i] &= others[i];
-        }
+    for i in 0..words.len().min(others.len()) {
+        words[i] &= others[i];
     }
 }

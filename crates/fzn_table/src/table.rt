@@ -11,9 +11,10 @@ ghost use Rattle.fzn_terms.specs.Values.{place_at};
 ghost use Rattle.fzn_terms.specs.Denied.{IsEntailed, IsGrown};
 ghost use Rattle.fzn_terms.specs.Intervals.{IsLimitedInterval, ends_of};
 ghost use Rattle.fzn_table.specs.Supports.{IsOutAt, IsDeclaredNarrow, IsClosePlace, MayStand, HasSupports, AreSupported, IsBarred};
-ghost use Rattle.fzn_table.specs.Passes.{MayHave, IsRowOfTable, number_in_row, IsOpenRow, AreOpenRows, IsOutOn, HasSupport, IsClaimSupported, IsJustifiedByTable, AreFoundOfTable};
+ghost use Rattle.fzn_table.specs.Passes.{MayHave, IsRowOfTable, number_in_row, IsOpenRow, AreOpenRows, IsOutOn, HasSupport, IsClaimSupported, IsSaidAt, IsRowSaid, IsJustifiedByTable, AreFoundOfTable};
 
 use crate::pass::Pass;
+use crate::said::{MOST_SAID, Said};
 use fzn_domain::{Domain, GREATEST_BOUND, LEAST_BOUND, Lit, Memory, Op, VarId};
 use fzn_list::Items;
 use fzn_propagator::Findings;
@@ -58,17 +59,10 @@ fn nearest(pass: &Pass, k: usize, op: Op, value: &i64, end: &i64) -> i64
     ensures holds { compares op value.now result ≡ true }
     ensures fails { compares op end.now result ≡ false }
 {
-    let mut nearest = *value;
-    for r in 0..pass.count() {
-        let number = pass.number_at(r, k);
-        if op.compares(*value, number)
-            && !op.compares(*end, number)
-            && !op.compares(number, nearest)
-        {
-            nearest = number;
-        }
+    match pass.supports.nearest_beyond(k, op, *end) {
+        Some(number) if op.compares(*value, number) && !op.compares(*end, number) => number,
+        _ => *value,
     }
-    nearest
 }
 
 /// Whether the set spans no more numbers, from its least to its greatest value, than are looked at one by one.
@@ -171,17 +165,38 @@ fn explain_out(pass: &Pass, k: usize, value: &i64, clause: &mut Items<Lit>) -> R
     Ok(())
 }
 
-/// Whether the row's value is out of this place, where there is one, and the clause says so.
-fn is_said_out(pass: &Pass, r: usize, k: usize, clause: &Items<Lit>) -> bool
+/// Whether the literal of this index, where the clause has one, says that the place, where there is one, has not the row's value.
+fn is_said_by(pass: &Pass, r: usize, k: usize, clause: &Items<Lit>, i: usize) -> bool
     requires whole { IsRowOfTable pass.now r }
-    ensures { IsTrue result → IsOutAt pass.now.trail.now.sets pass.now.places.now (numbers_in pass.now.rows.now) r k }
+    ensures { IsTrue result → IsSaidAt pass.now clause.now r k }
 {
+    let Some(lit) = clause.as_slice().get(i) else {
+        return false;
+    };
     if k >= pass.places.len() {
         return false;
     }
-    let value = pass.number_at(r, k);
-    !may_be(pass.trail, pass.places[k], &value)
-        && is_said(pass.trail, pass.places[k], &value, clause)
+    match pass.places[k] {
+        Term::Constant(_) => false,
+        Term::Variable(var) => lit.var == var && lit.is_true_at(pass.number_at(r, k)),
+    }
+}
+
+/// Whether some literal of the clause says that the row is out, as far as it is known of which place each speaks.
+fn is_row_said(pass: &Pass, r: usize, said: &mut Said, clause: &Items<Lit>) -> bool
+    requires whole { IsRowOfTable pass.now r }
+    ensures { IsTrue result → IsRowSaid pass.now clause.now r }
+{
+    if is_said_by(pass, r, said.place_of(said.last), clause, said.last) {
+        return true;
+    }
+    for i in 0..clause.len().min(MOST_SAID) {
+        if is_said_by(pass, r, said.place_of(i), clause, i) {
+            said.last = i;
+            return true;
+        }
+    }
+    false
 }
 
 /// A place that the row's value there is out of: one of which the clause says so, where there is one, else the first.
@@ -205,35 +220,33 @@ fn place_out(pass: &Pass, r: usize, clause: &Items<Lit>) -> Option<usize>
     found
 }
 
-/// The same, but this place before all others, and then the one that was the last row's, where the clause says that the value is out of it.
-fn first_place_out(
+/// Adds to a false clause what it takes to say that the place has not the row's value, which it has not on the trail.
+fn explain_place(
     pass: &Pass,
     r: usize,
-    p: usize,
-    last: usize,
-    clause: &Items<Lit>,
-) -> Option<usize>
+    k: usize,
+    said: &mut Said,
+    clause: &mut Items<Lit>,
+) -> Result<(), Memory>
     requires whole { IsRowOfTable pass.now r }
-    requires in_range { p < length pass.now.places.now }
-    ensures found { IfSome result (IsOutAt pass.now.trail.now.sets pass.now.places.now (numbers_in pass.now.rows.now) r) }
-    ensures none { IfNone result (IsOpenRow pass.now r) }
+    requires out { IsOutAt pass.now.trail.now.sets pass.now.places.now (numbers_in pass.now.rows.now) r k }
+    requires still { IsFalseClause pass.now.trail.now clause.old }
+    ensures { OnOk result (IsGrown pass.now.trail.now (IsOutOn pass.now r) clause.old clause.new) }
 {
-    if !may_be(pass.trail, pass.places[p], &pass.number_at(r, p)) {
-        return Some(p);
-    }
-    if is_said_out(pass, r, last, clause) {
-        return Some(last);
-    }
-    place_out(pass, r, clause)
+    let i = clause.len();
+    explain_out(pass, k, &pass.number_at(r, k), clause)?;
+    said.note(i, k);
+    Ok(())
 }
 
-/// Adds to a false clause what it takes to say that some value of the row is not in its place's set, at this place where it can be, else at
-/// the last one where the clause says so already. `false` where each is.
+/// Adds to a false clause what it takes to say that some value of the row is not in its place's set: nothing where the clause says so. A
+/// bound is said of this place where it can be. `false` where each value is in its place's set.
 fn refute_row(
     pass: &Pass,
     r: usize,
     p: usize,
-    last: &mut usize,
+    op: Op,
+    said: &mut Said,
     clause: &mut Items<Lit>,
 ) -> Result<bool, Memory>
     requires whole { IsRowOfTable pass.now r }
@@ -241,11 +254,17 @@ fn refute_row(
     requires still { IsFalseClause pass.now.trail.now clause.old }
     ensures { IfOk result (λ out. MatchBool out (IsGrown pass.now.trail.now (IsOutOn pass.now r) clause.old clause.new) (IsOpenRow pass.now r)) }
 {
-    let Some(k) = first_place_out(pass, r, p, *last, clause) else {
+    if op != Op::Equal && !may_be(pass.trail, pass.places[p], &pass.number_at(r, p)) {
+        explain_place(pass, r, p, said, clause)?;
+        return Ok(true);
+    }
+    if is_row_said(pass, r, said, clause) {
+        return Ok(true);
+    }
+    let Some(k) = place_out(pass, r, clause) else {
         return Ok(false);
     };
-    *last = k;
-    explain_out(pass, k, &pass.number_at(r, k), clause)?;
+    explain_place(pass, r, k, said, clause)?;
     Ok(true)
 }
 
@@ -309,11 +328,11 @@ fn explain_claim(pass: &Pass, p: usize, op: Op, bound: &i64) -> Result<Option<It
     ensures none { IfOk result (λ found. IfNone found (IsClaimSupported pass.now p op bound.now)) }
 {
     let mut clause = Items::new(pass.alloc);
-    let mut last = p;
+    let mut said = Said::new();
     let mut r = first_row(pass, p, op, bound);
     while r < pass.count() {
         if row_stands(pass, r, p, op, bound) {
-            if !refute_row(pass, r, p, &mut last, &mut clause)? {
+            if !refute_row(pass, r, p, op, &mut said, &mut clause)? {
                 return Ok(None);
             }
         }
@@ -543,13 +562,13 @@ fn bar_ends(
 }
 
 /// An inference for each value of a narrow place, and for each end of a wide one, that no row supports. Of many values that lie far apart
-/// the ends come first, and those between them in a later pass.
+/// the ends come first, and those between them in a later pass. `true` where each value was tested.
 fn bar_place(
     pass: &Pass,
     p: usize,
     marks: &mut Vec<bool>,
     found: &mut Findings,
-) -> Result<(), Memory>
+) -> Result<bool, Memory>
     requires in_range { p < length pass.now.places.now }
     requires marks { AreOpenRows pass.now marks.old.items }
     requires before { AreFoundOfTable pass.now found.old }
@@ -560,26 +579,38 @@ fn bar_place(
 {
     let ends = interval_of(pass.trail, pass.places[p]);
     if is_close_place(pass, p, ends) {
-        return bar_values(pass, p, marks, found);
+        bar_values(pass, p, marks, found)?;
+        return Ok(true);
     }
     if bar_ends(pass, p, ends, marks, found)? {
-        return Ok(());
+        return Ok(false);
     }
     if is_declared_narrow(pass.trail, pass.places[p]) {
-        return bar_values(pass, p, marks, found);
+        bar_values(pass, p, marks, found)?;
+        return Ok(true);
     }
-    Ok(())
+    Ok(false)
 }
 
-/// An inference for each value of a narrow place, and for each end of a wide one, that no row supports.
+/// Whether no row is possible.
+fn is_none_possible(pass: &Pass) -> bool {
+    pass.possible.iter().all(|word| *word == 0)
+}
+
+/// An inference for each value of a narrow place, and for each end of a wide one, that no row supports. Where no row is possible, those of
+/// the first place that is narrow are enough, since they leave it no value.
 pub(crate) fn bar_unsupported(pass: &Pass, found: &mut Findings) -> Result<(), Memory>
     requires before { AreFoundOfTable pass.now found.old }
     ensures found { AreFoundOfTable pass.now found.new }
     ensures none { OnOk result (found.new ≡ [] → AreSupported pass.now.trail.now pass.now.places.now (numbers_in pass.now.rows.now) (length pass.now.places.now)) }
 {
+    let is_none_possible = is_none_possible(pass);
     let mut marks = Vec::from_elem(pass.alloc, false, pass.supports.rows())?;
     for p in 0..pass.places.len() {
-        bar_place(pass, p, &mut marks, found)?;
+        let is_each_tested = bar_place(pass, p, &mut marks, found)?;
+        if is_none_possible && is_each_tested && !found.is_empty() {
+            return Ok(());
+        }
     }
     Ok(())
 }

@@ -1,6 +1,5 @@
 use Rattle.std.proofs.Common.{ap, sym, subst, ◌∙◌, inl, inr}
 use Rattle.std.proofs.lemmas.Bool.{true≢false}
-use Rattle.std.proofs.lemmas.Result.{on_ok_weaker}
 use Rattle.fzn_terms.specs.declared.interval.Interval.{Interval}
 use Rattle.fzn_table.specs.Passes.{HasSupport}
 use Rattle.fzn_table.proofs.table.bar_place.Goals as goal
@@ -10,21 +9,21 @@ pub returns-then-is_close_place-clause-none : goal.returns-then-is_close_place-c
 returns-then-is_close_place-clause-none c =
     let supported = HasSupport c.args.pass.now c.args.p in
     let ends = c.interval_of-ends in
-    on_ok_weaker c.bar_values.result (λ each nothing. record {
-      least = subst supported (ap (λ (e : Interval). e.low) ends.ensures.ends) (each nothing ends.result.low ends.ensures.members.0);
-      greatest = subst supported (ap (λ (e : Interval). e.high) ends.ensures.ends) (each nothing ends.result.high ends.ensures.members.1);
-      each_where_narrow = λ narrow. each nothing;
-    }) c.bar_values.ensures.none
+    λ nothing. let each = c.in_ok-bar_values.ensures.none nothing in record {
+      least = subst supported (ap (λ (e : Interval). e.low) ends.ensures.ends) (each ends.result.low ends.ensures.members.0);
+      greatest = subst supported (ap (λ (e : Interval). e.high) ends.ensures.ends) (each ends.result.high ends.ensures.members.1);
+      each_where_narrow = λ narrow. each;
+    }
 
 pub returns-then-is_declared_narrow-clause-none : goal.returns-then-is_declared_narrow-clause-none
 returns-then-is_declared_narrow-clause-none c =
     let supported = HasSupport c.args.pass.now c.args.p in
     let ends = c.interval_of-ends in
-    on_ok_weaker c.bar_values-then-is_declared_narrow.result (λ each nothing. record {
-      least = subst supported (ap (λ (e : Interval). e.low) ends.ensures.ends) (each nothing ends.result.low ends.ensures.members.0);
-      greatest = subst supported (ap (λ (e : Interval). e.high) ends.ensures.ends) (each nothing ends.result.high ends.ensures.members.1);
-      each_where_narrow = λ narrow. each nothing;
-    }) c.bar_values-then-is_declared_narrow.ensures.none
+    λ nothing. let each = c.in_ok-bar_values-2.ensures.none nothing in record {
+      least = subst supported (ap (λ (e : Interval). e.low) ends.ensures.ends) (each ends.result.low ends.ensures.members.0);
+      greatest = subst supported (ap (λ (e : Interval). e.high) ends.ensures.ends) (each ends.result.high ends.ensures.members.1);
+      each_where_narrow = λ narrow. each;
+    }
 
 -- else the place is wide
 pub returns-clause-none : goal.returns-clause-none

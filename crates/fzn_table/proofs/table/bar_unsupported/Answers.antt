@@ -8,7 +8,7 @@ pub loop-p-preserved : goal.loop-p-preserved
 loop-p-preserved c =
     let pass = c.args.pass.now in
     record {
-      supported = λ nothing. below_more (HasSupports pass.trail.now pass.places.now (numbers_in pass.rows.now)) c.loop-p.p (c.loop-p.invariant.supported (c.bar_place.ensures.kept nothing)) (c.in_ok-bar_place.ensures.none nothing);
+      supported = λ nothing. below_more (HasSupports pass.trail.now pass.places.now (numbers_in pass.rows.now)) c.loop-p.p (c.loop-p.invariant.supported (c.bar_place.ensures.kept nothing)) (c.in_ok-is_each_tested.ensures.none nothing);
       marks = c.bar_place.ensures.marks;
       found = c.bar_place.ensures.found;
     }
