@@ -1,15 +1,13 @@
 // What follows from the places that have one value: by the rule `hall` of that value.
 ghost use Rattle.std.specs.Prelude.{◌<◌, length};
-ghost use Rattle.fzn_values.specs.Term.{IsTerm};
 ghost use Rattle.fzn_globals.specs.DifferentPasses.{AreFoundOfDifferent};
 
 use crate::all_different::pairs::{bar_like, bar_pair};
 use crate::all_different::pass::Pass;
+use crate::recent::{is_new, told};
 use fzn_domain::Memory;
 use fzn_propagator::Findings;
 use fzn_terms::{greatest_of, has_other, least_of, may_be, next_value};
-use fzn_trail::Trail;
-use fzn_values::Term;
 
 /// A place with one value. Which it is is open: each inference is tested by itself.
 #[derive(Clone, Copy, Debug)]
@@ -53,29 +51,6 @@ fn fixed_of(pass: &Pass) -> Result<Vec<Fixed>, Memory> {
         }
     }
     Ok(fixed)
-}
-
-/// How many entries of the trail stood when its last level began: what these say has been told, since a level begins only where no
-/// propagator finds anything.
-fn told(trail: &Trail) -> usize {
-    match trail.level().checked_sub(1) {
-        Some(before) => trail.count_at(before),
-        None => 0,
-    }
-}
-
-/// Whether the term was narrowed behind so many entries.
-fn is_new(trail: &Trail, term: Term, told: usize) -> bool
-    requires { IsTerm (length trail.now.declared) term }
-{
-    let last = match term {
-        Term::Constant(_) => None,
-        Term::Variable(var) => trail.last_of(var),
-    };
-    match last {
-        Some(at) => told <= at,
-        None => told == 0,
-    }
 }
 
 /// Finds of each value of one of these places that no other place has it.

@@ -95,7 +95,13 @@ fn is_silent(pass: &Pass, i: &i64, j: &i64, open: bool) -> bool
 
 /// Finds what follows from the entry at i with its value j. Whether the entry has other values (it is `open`) says which pairs are passed
 /// over early.
-fn find_pair(pass: &Pass, i: &i64, j: &i64, open: bool, found: &mut Findings) -> Result<(), Memory>
+pub(crate) fn find_pair(
+    pass: &Pass,
+    i: &i64,
+    j: &i64,
+    open: bool,
+    found: &mut Findings,
+) -> Result<(), Memory>
     requires first { HasEntry pass.now i.now }
     requires second { HasEntry pass.now j.now }
     requires may { MayLead pass.now i.now j.now }
