@@ -6,9 +6,10 @@ ghost use Rattle.fzn_domain.specs.Narrow.{AllFixed};
 
 use crate::changes::Changes;
 use crate::counters::Counters;
+use crate::equals::Change;
 use crate::order::leading_order;
 use crate::waiting::Waiting;
-use crate::waking::{wake, wake_counted, wake_ends, wake_pairs};
+use crate::waking::{wake, wake_counted, wake_ends, wake_equalities, wake_pairs};
 use crate::watchers::Watchers;
 use fzn_domain::{Domain, Memory, VarId};
 use fzn_meaning::Model;
@@ -49,7 +50,7 @@ impl Agenda {
         let order = leading_order(alloc, variables, propagators, &watchers)?;
         let queue = Queue::new(alloc, propagators, order.as_slice())?;
         let known = counters.known_mut();
-        let waiting = Waiting::new(alloc, variables, &watchers, &countings, &queue, known)?;
+        let waiting = Waiting::new(alloc, model, &watchers, &countings, &queue, known)?;
         Ok(Agenda {
             waiting,
             counters,
@@ -88,7 +89,8 @@ impl Agenda {
         requires variables { variables ≡ length trail.now.declared }
         requires place { place < length trail.now.entries }
     {
-        let var = trail.entry(place).lit.var;
+        let lit = trail.entry(place).lit;
+        let var = lit.var;
         if var.0 == 0 || variables < var.0 {
             return Ok(());
         }
@@ -104,6 +106,17 @@ impl Agenda {
         if span.wants_bounds() {
             self.counters.keep(var.0, place, before, now)?;
             self.wake_by_bounds(propagators, var.0, changes, now);
+        }
+        if let Some(span) = self.waiting.span(var.0)
+            && let Some(list) = self.waiting.equalities(span)
+        {
+            let (queue, known) = (&mut self.queue, self.counters.known());
+            let change = Change {
+                lit,
+                domain: trail.domain(var),
+                bounds: now,
+            };
+            wake_equalities(queue, known, list, &change, trail, variables);
         }
         Ok(())
     }

@@ -1,9 +1,11 @@
 // Who waits for a variable, packed, as it is looked at where the variable changes.
 use crate::changes::Changes;
+use crate::equals::{KnownEquality, SeenEquality};
 use crate::known::Known;
 use crate::pairs::{KnownPair, PairEnd};
 use crate::watchers::{Watch, Watchers};
 use fzn_domain::Memory;
+use fzn_meaning::Model;
 use fzn_propagator::{Counting, Event};
 use fzn_queue::{Queue, Slot};
 use std::alloc::Global;
@@ -50,6 +52,15 @@ pub struct AskedPair {
     pub pair: KnownPair,
 }
 
+/// That an equality waits for changes of one of its terms, and is asked where one can say anything new.
+#[derive(Clone, Copy, Debug)]
+pub struct AskedEquality {
+    /// Where it is queued.
+    pub slot: Slot,
+    /// What is looked at.
+    pub equality: SeenEquality,
+}
+
 /// A part of a list.
 #[derive(Clone, Copy, Debug)]
 struct Part {
@@ -89,6 +100,7 @@ pub struct Span {
     low_ends: Part,
     high_ends: Part,
     pairs: Part,
+    equalities: Part,
 }
 
 impl Span {
@@ -99,6 +111,7 @@ impl Span {
             || !self.low_ends.is_empty()
             || !self.high_ends.is_empty()
             || !self.pairs.is_empty()
+            || !self.equalities.is_empty()
     }
 }
 
@@ -113,33 +126,36 @@ pub struct Waiting {
     high_ends: Vec<AskedEnd>,
     /// Pairs of which the variable is the switch, or stands in several places.
     pairs: Vec<AskedPair>,
+    /// Equalities of which the variable is a term.
+    equalities: Vec<AskedEquality>,
     /// By the numbers of the variables, less one.
     spans: Vec<Span>,
 }
 
 impl Waiting {
-    /// What the watches of so many variables come to, where the propagators count this and are queued so. The bounds of the constants of
-    /// pairs come to those that are known.
+    /// What the watches of the model's variables come to, where the propagators of its constraints count this and are queued so. The bounds of
+    /// the constants of pairs and equalities come to those that are known.
     pub fn new(
         alloc: Global,
-        variables: usize,
+        model: &Model,
         watchers: &Watchers,
         countings: &[Option<Counting>],
         queue: &Queue,
         known: &mut Known,
     ) -> Result<Waiting, Memory> {
-        let pairs = pairs_of(alloc, countings, known)?;
+        let filters = filters_of(alloc, model, countings, known)?;
         let mut waiting = Waiting {
             asked: Vec::new(alloc),
             counted: Vec::new(alloc),
             low_ends: Vec::new(alloc),
             high_ends: Vec::new(alloc),
             pairs: Vec::new(alloc),
+            equalities: Vec::new(alloc),
             spans: Vec::new(alloc),
         };
-        for index in 0..variables {
+        for index in 0..model.vars.len() {
             let variable = index.wrapping_add(1);
-            waiting.add_variable(variable, watchers, pairs.as_slice(), queue)?;
+            waiting.add_variable(variable, watchers, filters.as_slice(), queue)?;
         }
         Ok(waiting)
     }
@@ -149,20 +165,23 @@ impl Waiting {
         &mut self,
         variable: usize,
         watchers: &Watchers,
-        pairs: &[Option<KnownPair>],
+        filters: &[Filter],
         queue: &Queue,
     ) -> Result<(), Memory> {
         let (asked, counted) = (self.asked.len(), self.counted.len());
         let (low_ends, high_ends) = (self.low_ends.len(), self.high_ends.len());
-        let before = self.pairs.len();
+        let (pairs, equalities) = (self.pairs.len(), self.equalities.len());
         let (start, end) = watchers.span(variable);
         for i in start..end {
             if let Some(watch) = watchers.get(i)
                 && let Some(slot) = queue.slot(watch.propagator)
             {
-                match pairs.get(watch.propagator).copied().flatten() {
-                    Some(pair) => self.add_pair(variable, watch.event, pair, slot)?,
-                    None => self.add(watch, slot)?,
+                match filters.get(watch.propagator).copied() {
+                    Some(Filter::Pair(pair)) => self.add_pair(variable, watch.event, pair, slot)?,
+                    Some(Filter::Equality(equality)) => {
+                        self.add_equality(variable, watch, equality, slot)?;
+                    }
+                    _ => self.add(watch, slot)?,
                 }
             }
         }
@@ -171,7 +190,8 @@ impl Waiting {
             counted: Part::behind(counted, &self.counted),
             low_ends: Part::behind(low_ends, &self.low_ends),
             high_ends: Part::behind(high_ends, &self.high_ends),
-            pairs: Part::behind(before, &self.pairs),
+            pairs: Part::behind(pairs, &self.pairs),
+            equalities: Part::behind(equalities, &self.equalities),
         })?;
         Ok(())
     }
@@ -189,6 +209,22 @@ impl Waiting {
             _ => self.asked.push(Asked { slot, changes })?,
         }
         Ok(())
+    }
+
+    fn add_equality(
+        &mut self,
+        variable: usize,
+        watch: Watch,
+        equality: KnownEquality,
+        slot: Slot,
+    ) -> Result<(), Memory> {
+        match equality.seen_from(variable) {
+            Some(equality) => {
+                self.equalities.push(AskedEquality { slot, equality })?;
+                Ok(())
+            }
+            None => self.add(watch, slot),
+        }
     }
 
     fn add_pair(
@@ -254,26 +290,54 @@ impl Waiting {
     pub fn pairs(&self, span: &Span) -> Option<&[AskedPair]> {
         span.pairs.of(&self.pairs)
     }
+
+    /// Equalities.
+    #[inline(always)]
+    pub fn equalities(&self, span: &Span) -> Option<&[AskedEquality]> {
+        span.equalities.of(&self.equalities)
+    }
 }
 
-/// The pairs by the places of the propagators.
-fn pairs_of(
+/// What tells whether a propagator need not be asked, where anything but what it counts does.
+#[derive(Clone, Copy, Debug)]
+enum Filter {
+    None,
+    Pair(KnownPair),
+    Equality(KnownEquality),
+}
+
+/// What tells so of the propagator of each constraint, in order.
+fn filters_of(
     alloc: Global,
+    model: &Model,
     countings: &[Option<Counting>],
     known: &mut Known,
-) -> Result<Vec<Option<KnownPair>>, Memory> {
-    let mut pairs = Vec::new(alloc);
-    for counting in countings {
-        let pair = match counting {
-            Some(counting) => counting.pair,
-            None => None,
-        };
-        pairs.push(match pair {
-            Some(pair) => KnownPair::of(&pair, known)?,
-            None => None,
-        })?;
+) -> Result<Vec<Filter>, Memory> {
+    let mut filters = Vec::new(alloc);
+    for (place, counting) in countings.iter().enumerate() {
+        let pair = counting.as_ref().and_then(|counting| counting.pair);
+        if let Some(pair) = pair {
+            filters.push(match KnownPair::of(&pair, known)? {
+                Some(pair) => Filter::Pair(pair),
+                None => Filter::None,
+            })?;
+        } else {
+            filters.push(equality_of(model, place, known)?)?;
+        }
     }
-    Ok(pairs)
+    Ok(filters)
+}
+
+/// The same of the constraint at a place, where it is an equality.
+fn equality_of(model: &Model, place: usize, known: &mut Known) -> Result<Filter, Memory> {
+    let equality = match model.constraints.as_slice().get(place) {
+        Some(constraint) => KnownEquality::of(constraint, known)?,
+        None => None,
+    };
+    Ok(match equality {
+        Some(equality) => Filter::Equality(equality),
+        None => Filter::None,
+    })
 }
 
 /// The number in 32 bits, and the greatest of them for one that has no room there: what stands that far down a list is not woken, and is

@@ -1,10 +1,14 @@
 // Who is queued once a variable has changed.
+ghost use Rattle.std.specs.Prelude.{◌≡◌, length};
+
 use crate::changes::Changes;
 use crate::counters::Counters;
+use crate::equals::Change;
 use crate::known::Known;
-use crate::waiting::{Asked, AskedEnd, AskedPair, Counted};
+use crate::waiting::{Asked, AskedEnd, AskedEquality, AskedPair, Counted};
 use fzn_propagator::{Propagator, Shift};
 use fzn_queue::Queue;
+use fzn_trail::Trail;
 
 /// Queues those of the list that wait for one of these changes.
 #[inline(always)]
@@ -48,6 +52,25 @@ pub fn wake_ends(queue: &mut Queue, known: &Known, list: &[AskedEnd], value: i64
 pub fn wake_pairs(queue: &mut Queue, known: &Known, list: &[AskedPair], changes: Changes) {
     for asked in list {
         if asked.changes.meet(changes) && !asked.pair.is_idle(known) {
+            queue.push(asked.slot);
+        }
+    }
+}
+
+/// Queues the equalities of which the change of the variable says anything new.
+#[inline(always)]
+pub fn wake_equalities(
+    queue: &mut Queue,
+    known: &Known,
+    list: &[AskedEquality],
+    change: &Change,
+    trail: &Trail,
+    variables: usize,
+)
+    requires { variables ≡ length trail.now.declared }
+{
+    for asked in list {
+        if !asked.equality.is_idle(change, known, trail, variables) {
             queue.push(asked.slot);
         }
     }

@@ -27,10 +27,10 @@ pub record IsPairOf (form : SumForm) (pair : Pair) : Type 0 where
   pub bound : pair.bound ≡ form.bound
   pub switch : pair.switch ≡ form.switch
 
--- a sum of two places counts nothing, and one of three places or more by its coefficients
+-- a pair counts nothing, and a sum of two places or more by its coefficients
 abbrev pub CountsBy : SumForm → List ℤ → Option Pair → Type 0
 CountsBy form weights (Some pair) = IsPairOf form pair × (weights ≡ [])
-CountsBy form weights None = (3 ≤ length form.places) × (weights ≡ weights_in form)
+CountsBy form weights None = (2 ≤ length form.places) × (weights ≡ weights_in form)
 
 abbrev pub CountsForm : SumForm → Counting → Type 0
 CountsForm form counting = CountsBy form counting.weights.items counting.pair

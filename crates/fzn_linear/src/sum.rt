@@ -26,7 +26,7 @@ use std::alloc::Global;
 const WIDE: usize = 64;
 
 /// A sum of fewer places is not counted.
-const FEWEST: usize = 3;
+const FEWEST: usize = 2;
 
 /// The sum of a constraint's form compares so with its bound, and the opposite form does not.
 #[derive(Debug, Drop)]
@@ -92,7 +92,7 @@ impl Propagator for SumPropagator {
         }
     }
 
-    /// The ends of the sum; of two places their bounds tell enough.
+    /// The ends of the sum; of a pair bounds tell enough.
     fn counting(&self, alloc: Global) -> Result<Option<Counting>, Memory>
         ensures counts { IfOk result (λ found. IfSome found (CountsForm self.now.form)) }
     {
