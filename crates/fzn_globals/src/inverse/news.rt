@@ -38,6 +38,7 @@ pub(crate) fn find_news(pass: &Pass, found: &mut Findings) -> Result<(), Memory>
     for k in 0..pass.there.len() {
         push_value(&pass, k, &mut pairs)?;
     }
+    // No value of a term comes to 2^31, so by entries, and of one entry by values.
     pairs.sort_by_key(|it| it.i.saturating_mul(1 << 31).saturating_add(it.j))?;
     for n in 0..pairs.len() {
         find_once(&pass, pairs.as_slice(), n, found)?;
